@@ -1,0 +1,5 @@
+pub mod Cells
+pub mod Lists
+pub mod Refusals
+pub mod Rows
+pub mod Stores
