@@ -1,1 +1,2 @@
+pub mod Pushes
 mod Tables

@@ -1,0 +1,5 @@
+mod Bytes
+mod Inverse
+mod Numbers
+mod Sizes
+mod Walks

@@ -1,0 +1,5 @@
+pub mod Faults
+pub mod Groups
+pub mod Codes
+pub mod Reading
+pub mod Cursors
