@@ -1,3 +1,5 @@
+mod Appends
+mod Bodies
 mod Bytes
 mod Inverse
 mod Numbers

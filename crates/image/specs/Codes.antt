@@ -16,6 +16,9 @@ pub record Code : Type 0 where
   pub depth : ℕ
   pub entries : List Instr
 
+abbrev pub coded : ℕ → ℕ → List Instr → Code
+coded c d is = record { cells = c; depth = d; entries = is }
+
 -- an instruction's operands, where it names none, `a`, or both
 abbrev pub operandBytes : ℕ → ℕ → ℕ → List ℕ
 operandBytes zero a b = []

@@ -1,5 +1,7 @@
+pub mod Codes
+pub mod Cursors
 pub mod Faults
 pub mod Groups
-pub mod Codes
 pub mod Reading
-pub mod Cursors
+pub mod Theorems
+pub mod Writing

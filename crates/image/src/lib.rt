@@ -4,6 +4,7 @@ mod entries;
 pub mod fault;
 mod groups;
 pub mod read;
+pub mod write;
 
 // What an image says before its instructions: the cells that the code uses, the stack words that it needs, and how
 // many instructions it has.

@@ -1,0 +1,6 @@
+mod Bitwise
+mod Fielded
+mod Ints
+mod Rounds
+mod Shifted
+pub mod Standing

@@ -1,0 +1,21 @@
+use mathlib.Core.Path.{ap, _∙_}
+use lib.IntN.{_+ℤ_}
+use mir.Syntax.{w32}
+use mir.Val.{SFits}
+use Rattle.std.proofs.shelf.Signed.{toZ-ofZ}
+use Rattle.arith.specs.Integers.{fitted, sum}
+use Rattle.arith.proofs.Ints.{sum-fits, over}
+use Rattle.arith.proofs.integer.add.Needs as need
+
+pub add-value : need.add-value
+add-value c =
+    let f : SFits w32 (c .value .result) = record { sfits = c .value .ok } in
+    let g : SFits w32 (c .value-2 .result) = record { sfits = c .value-2 .ok } in
+    rw (toZ-ofZ w32 (c .value .result) f, toZ-ofZ w32 (c .value-2 .result) g) (sum-fits (c .value .result) (c .value-2 .result) (c .value .ensures .small) (c .value-2 .ensures .small))
+
+pub returns : need.returns
+unfolding sum
+returns c =
+    c .fit .ensures
+    ∙ ap fitted (over _+ℤ_ _ _ _ _ (c .value .ensures .exact) (c .value-2 .ensures .exact) record { sfits = c .value .ok } record { sfits = c .value-2 .ok }
+    (sum-fits (c .value .result) (c .value-2 .result) (c .value .ensures .small) (c .value-2 .ensures .small)))

@@ -1,0 +1,5 @@
+mod Past
+mod Pops
+pub mod Runs
+pub mod Steps
+pub mod Views

@@ -1,0 +1,5 @@
+mod Fronts
+mod Cutting
+mod Signs
+mod Wholes
+mod Lookups

@@ -1,0 +1,6 @@
+pub mod Faults
+pub mod Lexemes
+pub mod Cut
+pub mod Whole
+pub mod Names
+pub mod Reserved
