@@ -1,4 +1,5 @@
 mod Bitwise
+mod Compared
 mod Fielded
 mod Ints
 mod Rounds

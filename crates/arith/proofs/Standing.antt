@@ -27,6 +27,7 @@ use Rattle.arith.specs.Fields.{field}
 use Rattle.arith.specs.Shifts.{kindNumber, kindOf}
 use Rattle.arith.specs.Laws.{Arithmetic, Exactly, Divides, InRange, Residue}
 use Rattle.arith.proofs.Bitwise.{and-bits, or-bits, xor-bits, turned-bits}
+use Rattle.arith.proofs.Compared.{compared-says, lcompared-says}
 use Rattle.arith.proofs.Fielded.{deposit-back, bits-above, bits-under, field-bits, field-small}
 use Rattle.arith.proofs.Shifted.{lsl-bits, lsl-fill, lsr-bits, lsr-fill, asr-bits, asr-repeat, csl-bits, csl-round, round-back}
 
@@ -216,6 +217,8 @@ stands =
       lby-zero = lby-zero;
       tested = index-tested;
       refused = index-refused;
+      compares = λ r y x h k. compared-says r y x (int-apart y x h k);
+      lcompares = lcompared-says;
       relations = relations-back;
       kinds = kinds-back;
       ands = and-bits;

@@ -11,11 +11,12 @@ use Rattle.std.specs.declared.result.Result.the-variants.{Ok, Err}
 use Rattle.arith.specs.declared.stop.Stop.{Stop}
 use Rattle.arith.specs.declared.stop.Stop.the-variants.{Overflow, ZeroDivisor}
 use Rattle.arith.specs.declared.relation.Relation.{Relation}
+use Rattle.arith.specs.declared.relation.Relation.the-variants.{Equal, Unequal, Less, AtMost, Greater, AtLeast}
 use Rattle.arith.specs.declared.shift.Kind.{Kind}
 use Rattle.arith.specs.declared.shift.Kind.the-variants.{Lsl, Lsr, Asr, Csl, Csr}
 use Rattle.arith.specs.Integers.{int, sum, difference, product, quotient, remainder, negation, within}
 use Rattle.arith.specs.Logicals.{lsum, ldifference, lproduct, lquotient, lremainder}
-use Rattle.arith.specs.Relations.{relationNumber, relationOf}
+use Rattle.arith.specs.Relations.{relationNumber, relationOf, compared, lcompared}
 use Rattle.arith.specs.Bits.{complement, bit}
 use Rattle.arith.specs.Fields.{isField, field, deposited}
 use Rattle.arith.specs.Shifts.{kindNumber, kindOf, shifted}
@@ -35,6 +36,19 @@ Divides y x q r = (y ≡ q *ℤ x +ℤ r) × (natAbs r < natAbs x) × (pos 0 ≤
 -- r is n modulo 65,536
 abbrev pub Residue : ℕ → ℕ → Type 0
 Residue n r = (r < 65536) × ((k : ℕ) × (n ≡ k * 65536 + r))
+
+-- the relation of two numbers
+abbrev pub Related : Relation → ℤ → ℤ → Type 0
+Related Equal y x = y ≡ x
+Related Unequal y x = y ≡ x → ⊥
+Related Less y x = y <ℤ x
+Related AtMost y x = y ≤ℤ x
+Related Greater y x = x <ℤ y
+Related AtLeast y x = x ≤ℤ y
+
+-- w is TRUE where P holds, and FALSE where it does not
+abbrev pub Says : ℕ → Type 0 → Type 0
+Says w P = ((w ≡ 65535) × P) ⊎ ((w ≡ 0) × (P → ⊥))
 
 pub record Arithmetic : Type 0 where
   -- an INTEGER is a word in two's complement, and different words are different INTEGERs
@@ -57,6 +71,9 @@ pub record Arithmetic : Type 0 where
   -- an index is tested as an INTEGER
   pub tested : (i n : ℕ) → within i n ≡ true → (pos 0 ≤ℤ int i) × (int i <ℤ pos n)
   pub refused : (i n : ℕ) → within i n ≡ false → (int i <ℤ pos 0) ⊎ (pos n ≤ℤ int i)
+  -- words are compared as INTEGERs, or as the LOGICALs that they are
+  pub compares : (r : Relation) (y x : ℕ) → y < 65536 → x < 65536 → Says (compared r y x) (Related r (int y) (int x))
+  pub lcompares : (r : Relation) (y x : ℕ) → Says (lcompared r y x) (Related r (pos y) (pos x))
   -- numbers of relations and shifts
   pub relations : (r : Relation) → relationOf (relationNumber r) ≡ r
   pub kinds : (k : Kind) → kindOf (kindNumber k) ≡ k

@@ -3,5 +3,8 @@ mod Bodies
 mod Bytes
 mod Inverse
 mod Numbers
+mod Onlys
+mod ReadBack
 mod Sizes
 mod Walks
+mod Whole

@@ -3,6 +3,7 @@ mod cursor;
 mod entries;
 pub mod fault;
 mod groups;
+pub mod laws;
 pub mod read;
 pub mod write;
 

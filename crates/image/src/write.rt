@@ -18,7 +18,8 @@ use words::instr::Instr;
 use words::instr::operands;
 use words::list::Bounded;
 
-fn size(n: u16) -> usize
+// How many bytes a number takes.
+pub fn size(n: u16) -> usize
     ensures value { λ r. ⌜ r ≡ length (written n) ⌝ }
     ensures small { λ r. ⌜ r ≤ 3 ⌝ }
 {
@@ -26,7 +27,7 @@ fn size(n: u16) -> usize
 }
 
 // How many bytes an entry takes; none where no instruction has this number or an operand that is not named is not 0.
-fn entry_size(i: Instr) -> Option<usize>
+pub fn entry_size(i: Instr) -> Option<usize>
     ensures value { λ r. ⌜ r ≡ sizeOf i ⌝ }
     ensures small { λ r. ⌜ BySome r (Unit {0}) (λ n. n ≤ 9) ⌝ }
 {

@@ -1,3 +1,4 @@
+mod Operands
 mod Past
 mod Pops
 pub mod Runs

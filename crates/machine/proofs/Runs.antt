@@ -8,6 +8,7 @@ use Rattle.words.specs.declared.instr.Instr.{Instr}
 use Rattle.machine.specs.declared.ending.Ending.{Ending}
 use Rattle.machine.specs.Machine.{State, step, run}
 use Rattle.machine.specs.Laws.{Lawful}
+use Rattle.machine.proofs.Operands.{rules}
 use Rattle.machine.proofs.Steps.{steps-step, ends-step, wrote-step, pushed-step, low-step, past-step, stay}
 use Rattle.machine.proofs.Views.{top-is, next-is, shows}
 
@@ -26,6 +27,7 @@ run-on P d (suc m) n s =
 pub lawful : Lawful
 lawful =
     record {
+      named = rules;
       counts = steps-step;
       ends = ends-step;
       writes = wrote-step;

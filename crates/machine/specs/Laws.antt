@@ -1,14 +1,19 @@
 -- What a step does, whatever the instruction.
 use mathlib.Core.Path.{_≡_}
-use mathlib.Core.List.{List}
+use mathlib.Core.Bool.{true}
+use mathlib.Core.List.{List, [], _∷_}
 use mathlib.Core.Logic.{_⊎_}
-use Prim.Native.Nat.{ℕ, _+_, _-_, _<_, _≤_}
+use Prim.Native.Nat.{ℕ, zero, suc, _+_, _-_, _<_, _≤_}
 use lib.ListN.{length, getD, set}
+use Rattle.std.specs.declared.option.Option.{Option}
 use Rattle.std.specs.declared.option.Option.the-variants.{Some, None}
+use Rattle.words.specs.Rows.{operandsOf}
 use Rattle.words.specs.declared.instr.Instr.{Instr}
 use Rattle.machine.specs.declared.ending.Ending.{Ending}
 use Rattle.machine.specs.declared.ending.Ending.the-variants.{Outside}
+use Rattle.machine.specs.declared.op.Op.{Op}
 use Rattle.machine.specs.declared.vm.Move.{Move}
+use Rattle.machine.specs.Table.{ops, fine}
 use Rattle.machine.specs.Machine.{State, made, step, run}
 use Rattle.machine.specs.Stacks.{hd, tl, stacked, Shows}
 
@@ -30,7 +35,21 @@ Wrote s t =
 abbrev pub Pushed : ℕ → State → State → Type 0
 Pushed d s t = (t .stack ≡ s .stack) ⊎ ((k : ℕ) × (w : ℕ) × (k < d) × (t .stack ≡ set (s .stack) k w) × (t .vm .height ≡ k + 1))
 
+-- an operand that an instruction does not name is 0: it names none, `a` alone, or `a` and `b`
+abbrev pub Unnamed : Option ℕ → ℕ → ℕ → Type 0
+Unnamed None a b = ⊥
+Unnamed (Some zero) a b = (a ≡ 0) × (b ≡ 0)
+Unnamed (Some (suc zero)) a b = b ≡ 0
+Unnamed (Some (suc (suc n))) a b = Unit {0}
+
+-- the instructions from number n on keep to that, and there are no more
+abbrev pub Named : ℕ → List Op → Type 0
+Named n [] = operandsOf n ≡ None
+Named n (o ∷ os) = ((a b : ℕ) → fine o a b ≡ true → Unnamed (operandsOf n) a b) × Named (suc n) os
+
 pub record Lawful : Type 0 where
+  -- the operands' rules go with the table of the operands that each instruction names
+  pub named : Named 0 ops
   -- each step of a machine that has not ended counts one
   pub counts : (P : List Instr) (d : ℕ) (s : State) → s .vm .ending ≡ None → step P d s .vm .steps ≡ s .vm .steps + 1
   -- an ending step changes only the ending and the count

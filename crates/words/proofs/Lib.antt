@@ -1,2 +1,3 @@
+mod Chosen
 pub mod Pushes
 mod Tables

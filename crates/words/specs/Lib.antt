@@ -1,4 +1,5 @@
 pub mod Cells
+pub mod Halves
 pub mod Lists
 pub mod Refusals
 pub mod Rows

@@ -23,7 +23,7 @@ impl<'a, T: Copy> Bounded<'a, T> {
         ensures value { λ r. ⌜ r ≡ now (self .entry) .len ⌝ }
         ensures held { λ r. ⌜ r ≡ length (held (now (self .entry))) ⌝ }
     {
-        self.len
+        self.as_slice().len()
     }
 
     // Adds at the end; where every cell is taken, refuses with their number and changes nothing.

@@ -1,9 +1,10 @@
 // A store of bytes that were lent, two to a word, the high one first.
 ghost use mathlib.Core.Path.{_≡_, refl, _∙_};
-ghost use lib.ListN.{length, drop};
+ghost use Prim.Native.Nat.{_+_, _/_, _%_, _<_};
+ghost use lib.ListN.{length, getD, set, drop};
 ghost use denote.Ref.{now, name};
 ghost use Rattle.words.specs.Cells.{short-pairsOf, small-pairsOf};
-ghost use Rattle.words.specs.Stores.{pairsOf};
+ghost use Rattle.words.specs.Stores.{pair, pairsOf};
 use super::Store;
 use super::StoreFault;
 
@@ -11,6 +12,22 @@ use super::StoreFault;
 #[derive(Drop)]
 pub struct Bytes<'a> {
     pub cells: &'a mut [u8],
+}
+
+// The word that begins at the byte `i`.
+fn at(cells: &[u8], i: usize) -> u16
+    requires { ⌜ i + 1 < length (now cells) ⌝ }
+    ensures { λ r. ⌜ r ≡ pair (getD (now (cells .entry)) i 0) (getD (now (cells .entry)) (i + 1) 0) ⌝ }
+{
+    cells[i] as u16 * 256 + cells[i + 1] as u16
+}
+
+fn put(cells: &mut [u8], i: usize, w: u16)
+    requires { ⌜ i + 1 < length (now cells) ⌝ }
+    ensures { λ _. ⌜ now (cells .exit) ≡ set (set (now (cells .entry)) i (w / 256)) (i + 1) (w % 256) ⌝ }
+{
+    cells[i] = (w / 256) as u8;
+    cells[i + 1] = (w % 256) as u8;
 }
 
 pub impl<'a> Store for Bytes<'a> as BytesStore {
@@ -35,17 +52,14 @@ pub impl<'a> Store for Bytes<'a> as BytesStore {
         if cell >= self.size() {
             return Err(StoreFault::NoCell(cell));
         }
-        let i = 2 * cell as usize;
-        Ok(self.cells[i] as u16 * 256 + self.cells[i + 1] as u16)
+        Ok(at(self.cells, 2 * cell as usize))
     }
 
     fn write(&mut self, cell: u16, w: u16) -> Result<(), StoreFault> {
         if cell >= self.size() {
             return Err(StoreFault::NoCell(cell));
         }
-        let i = 2 * cell as usize;
-        self.cells[i] = (w / 256) as u8;
-        self.cells[i + 1] = (w % 256) as u8;
+        put(self.cells, 2 * cell as usize, w);
         Ok(())
     }
 }

@@ -2,6 +2,7 @@
 ghost use mathlib.Core.Path.{_≡_, refl, _∙_};
 ghost use denote.Ref.{now, name};
 ghost use Rattle.words.specs.Cells.{short-joinedOf, small-joinedOf};
+ghost use Rattle.words.specs.Halves.{halfOf};
 ghost use Rattle.words.specs.Stores.{joinedOf};
 use super::Store;
 use super::StoreFault;
@@ -11,6 +12,24 @@ use super::StoreFault;
 pub struct Joined<'a, 'b, X, Y> {
     pub first: &'a mut X,
     pub second: &'b mut Y,
+}
+
+// Which store has the cell, and as which of its own.
+#[derive(Clone, Copy)]
+pub enum Half {
+    First(u16),
+    Second(u16),
+}
+
+// The first store has `m` cells.
+fn which_half(cell: u16, m: u16) -> Half
+    ensures { λ r. ⌜ r ≡ halfOf cell m ⌝ }
+{
+    if cell < m {
+        Half::First(cell)
+    } else {
+        Half::Second(cell - m)
+    }
 }
 
 pub impl<'a, 'b, X: Store, Y: Store> Store for Joined<'a, 'b, X, Y> as JoinedStore {
@@ -36,21 +55,19 @@ pub impl<'a, 'b, X: Store, Y: Store> Store for Joined<'a, 'b, X, Y> as JoinedSto
         if cell >= self.size() {
             return Err(StoreFault::NoCell(cell));
         }
-        let m = self.first.size();
-        if cell < m {
-            return self.first.read(cell);
+        match which_half(cell, self.first.size()) {
+            Half::First(c) => self.first.read(c),
+            Half::Second(c) => self.second.read(c),
         }
-        self.second.read(cell - m)
     }
 
     fn write(&mut self, cell: u16, w: u16) -> Result<(), StoreFault> {
         if cell >= self.size() {
             return Err(StoreFault::NoCell(cell));
         }
-        let m = self.first.size();
-        if cell < m {
-            return self.first.write(cell, w);
+        match which_half(cell, self.first.size()) {
+            Half::First(c) => self.first.write(c, w),
+            Half::Second(c) => self.second.write(c, w),
         }
-        self.second.write(cell - m, w)
     }
 }

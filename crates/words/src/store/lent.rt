@@ -1,6 +1,7 @@
 // A store of words that were lent.
 ghost use mathlib.Core.Path.{_≡_, refl, _∙_};
-ghost use lib.ListN.{length, drop};
+ghost use Prim.Native.Nat.{_<_};
+ghost use lib.ListN.{length, getD, set, drop};
 ghost use denote.Ref.{now, name};
 ghost use Rattle.words.specs.Cells.{short-wordsOf, small-wordsOf};
 ghost use Rattle.words.specs.Stores.{wordsOf};
@@ -11,6 +12,20 @@ use super::StoreFault;
 #[derive(Drop)]
 pub struct Words<'a> {
     pub cells: &'a mut [u16],
+}
+
+fn at(cells: &[u16], i: usize) -> u16
+    requires { ⌜ i < length (now cells) ⌝ }
+    ensures { λ r. ⌜ r ≡ getD (now (cells .entry)) i 0 ⌝ }
+{
+    cells[i]
+}
+
+fn put(cells: &mut [u16], i: usize, w: u16)
+    requires { ⌜ i < length (now cells) ⌝ }
+    ensures { λ _. ⌜ now (cells .exit) ≡ set (now (cells .entry)) i w ⌝ }
+{
+    cells[i] = w;
 }
 
 pub impl<'a> Store for Words<'a> as WordsStore {
@@ -38,14 +53,14 @@ pub impl<'a> Store for Words<'a> as WordsStore {
         if cell >= self.size() {
             return Err(StoreFault::NoCell(cell));
         }
-        Ok(self.cells[cell as usize])
+        Ok(at(self.cells, cell as usize))
     }
 
     fn write(&mut self, cell: u16, w: u16) -> Result<(), StoreFault> {
         if cell >= self.size() {
             return Err(StoreFault::NoCell(cell));
         }
-        self.cells[cell as usize] = w;
+        put(self.cells, cell as usize, w);
         Ok(())
     }
 }

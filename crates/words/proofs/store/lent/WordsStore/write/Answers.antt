@@ -1,7 +1,7 @@
 use borrow.Author.Needs.{needs}
-use mathlib.Core.Path.{refl}
+use mathlib.Core.Path.{refl, ap, _∙_}
 use Prim.Native.Nat.{_<_}
-use lib.ListN.{length}
+use lib.ListN.{length, drop}
 use native.Mathlib.Omega.{arith}
 use Rattle.std.proofs.shelf.Lists.{set-past, drop-set-lt}
 use Rattle.std.proofs.shelf.Tests.{cond-below}
@@ -11,8 +11,8 @@ use Rattle.words.specs.Refusals.{refuse}
 use Rattle.words.specs.Stores.{wordsOf}
 use Rattle.words.proofs.store.lent.WordsStore.write.Needs as need
 
-pub index-self-cell : need.index-self-cell
-index-self-cell c = omega (arith, length-wordsOf (c .args .self .now .cells .now))
+pub put-requires : need.put-requires
+put-requires c κs = omega (arith, length-wordsOf (c .args .self .now .cells .now))
 
 pub returns-then-cell-size : need.returns-then-cell-size
 returns-then-cell-size c = search (needs, set-past)
@@ -24,6 +24,6 @@ returns c =
     let h : i < length (wordsOf xs) = omega arith in
     record {
       answer = cond-below i (length (wordsOf xs)) (Ok tt) (refuse 36 i) h;
-      after = set-wordsOf xs i (c .args .w) (omega arith);
-      keeps = (refl, drop-set-lt 65535 xs i (c .args .w) (omega (arith, length-wordsOf xs)));
+      after = ap wordsOf (c .put .ensures) ∙ set-wordsOf xs i (c .args .w) (omega arith);
+      keeps = (refl, ap (drop 65535) (c .put .ensures) ∙ drop-set-lt 65535 xs i (c .args .w) (omega (arith, length-wordsOf xs)));
     }

@@ -1,0 +1,63 @@
+// What numbers mean, in words.
+use words::refusal::Refusal;
+
+const MNEMONICS: [&str; 34] = [
+    "HALT",
+    "LIT",
+    "LOAD",
+    "STOR",
+    "LDX",
+    "STX",
+    "CHK",
+    "DUP",
+    "DROP",
+    "ADD",
+    "SUB",
+    "MUL",
+    "DIV",
+    "REM",
+    "NEG",
+    "LADD",
+    "LSUB",
+    "LMUL",
+    "LDIV",
+    "LREM",
+    "CMP",
+    "LCMP",
+    "AND",
+    "OR",
+    "XOR",
+    "NOT",
+    "FLD",
+    "DEP",
+    "SHF",
+    "BR",
+    "BRE",
+    "CASE",
+    "FOR",
+    "NEXT",
+];
+
+pub fn mnemonic(number: u16) -> &'static str {
+    if number > 33 {
+        return "?";
+    }
+    MNEMONICS[number as usize]
+}
+
+// A sentence on each refusal.
+pub fn sentence(r: Refusal) -> &'static str {
+    match r.number {
+        20 => "the image is cut short",
+        21 => "a number begins with a group of zeros",
+        22 => "a number is over 65535",
+        23 => "there is no instruction of this number",
+        24 => "bytes are left after the last instruction",
+        25 => "the cells are over 4096, or the instructions are none or over 16383",
+        26 => "the table has too few entries for the instructions",
+        27 => "the room is too short: the image takes this many bytes",
+        28 => "the entry or the header is no code's",
+        36 => "the store has no such cell",
+        _ => "refused",
+    }
+}
