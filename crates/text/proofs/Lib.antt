@@ -3,3 +3,6 @@ mod Cutting
 mod Signs
 mod Wholes
 mod Lookups
+mod FirstBytes
+mod Sound
+mod Readings

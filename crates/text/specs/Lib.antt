@@ -4,3 +4,5 @@ pub mod Cut
 pub mod Whole
 pub mod Names
 pub mod Reserved
+pub mod Forms
+pub mod Theorems

