@@ -1,4 +1,8 @@
-// `spl batch`: one answer line to each request line.
+// `spl batch`: one answer line to each request line; and `spl check`: a table of them.
+ghost use Prim.Native.Nat.{_+_, _≤_};
+ghost use lib.ListN.{length};
+ghost use Rattle.std.specs.Options.{Cases};
+use crate::cutting::put_token;
 use crate::fields::Problem;
 use crate::fields::ProblemFromAlloc;
 use crate::fields::ProblemFromFormat;
@@ -16,7 +20,9 @@ use std::alloc::AllocError;
 use std::alloc::Global;
 use std::error::AnyError;
 use std::fmt::Write;
+use std::fs;
 use std::io::Read;
+use text::whole::TokensFault;
 use words::instr::Instr;
 use words::refusal::Refusal;
 
@@ -36,6 +42,15 @@ const EMPTY: Instr = Instr {
 pub struct Bench {
     bytes: Vec<u8>,
     code: Vec<Instr>,
+}
+
+impl Bench {
+    fn new(heap: Global) -> Bench {
+        Bench {
+            bytes: Vec::new(heap),
+            code: Vec::new(heap),
+        }
+    }
 }
 
 fn refused(out: &mut String, r: Refusal) -> Result<(), Problem> {
@@ -122,11 +137,35 @@ fn image_out(
     }
 }
 
+// tokens HEX
+fn tokens(
+    heap: Global,
+    bench: &mut Bench,
+    rest: Option<&[u8]>,
+    out: &mut String,
+) -> Result<(), Problem> {
+    let (bytes, rest) = field(rest)?;
+    last(rest)?;
+    hex(bytes, &mut bench.bytes)?;
+    match text::whole::tokens(heap, bench.bytes.as_slice()) {
+        Ok(list) => {
+            out.push_str("ok")?;
+            for t in &list {
+                put_token(out, t)?;
+            }
+            Ok(())
+        }
+        Err(TokensFault::Text(fault)) => refused(out, fault.refusal()),
+        Err(TokensFault::Memory) => Err(Problem::Memory),
+    }
+}
+
 fn request(heap: Global, bench: &mut Bench, line: &[u8], out: &mut String) -> Result<(), Problem> {
     let (name, rest) = cut(line, b' ');
     match name {
         b"imagein" => image_in(heap, bench, rest, out),
         b"imageout" => image_out(heap, bench, rest, out),
+        b"tokens" => tokens(heap, bench, rest, out),
         _ => Err(Problem::NotRequest("no such request")),
     }
 }
@@ -150,14 +189,70 @@ fn answer(
     out.push('\n')
 }
 
+// Where ` -> ` stands in a line of a table.
+fn arrow(line: &[u8]) -> Option<usize>
+    ensures { λ r. ⌜ Cases r (Unit {0}) (λ i. i + 4 ≤ length (now (line .entry))) ⌝ }
+{
+    for i in 0..line.len() {
+        if line.len() - i >= 4 && line[i..].starts_with(b" -> ") {
+            return Some(i);
+        }
+    }
+    None
+}
+
+// Whether a line `REQUEST -> ANSWER` of a table holds; a difference is printed.
+fn holds(rt: &LibcRuntime, bench: &mut Bench, line: &[u8]) -> Result<bool, AnyError> {
+    let heap = rt.alloc();
+    let Some(i) = arrow(line) else {
+        println!(rt, "a line has no ` -> `")?;
+        return Ok(false);
+    };
+    let mut out = String::new(heap);
+    answer(heap, bench, &line[0..i], &mut out)?;
+    let (found, _) = cut(out.as_bytes(), b'\n');
+    if found == &line[i + 4..] {
+        return Ok(true);
+    }
+    let request = String::from_utf8_lossy(heap, line)?;
+    println!(rt, "{request}")?;
+    print!(rt, "  but was answered {out}")?;
+    Ok(false)
+}
+
+// `spl check`: a table of requests with their answers; lines that begin with `#`, and empty ones, are passed over.
+pub fn check(rt: &LibcRuntime, path: &str) -> Result<(), AnyError> {
+    let heap = rt.alloc();
+    let input = fs::read(rt, path)?;
+    let mut bench = Bench::new(heap);
+    let mut rest = Some(input.as_slice());
+    let mut count = 0u64;
+    let mut wrong = 0u64;
+    for _ in 0..=input.len() {
+        let Some(text) = rest else {
+            break;
+        };
+        let (line, more) = cut(text, b'\n');
+        if !line.is_empty() && !line.starts_with(b"#") {
+            count = count.saturating_add(1);
+            if !holds(rt, &mut bench, line)? {
+                wrong = wrong.saturating_add(1);
+            }
+        }
+        rest = more;
+    }
+    println!(rt, "{path}: {count} requests, {wrong} differences")?;
+    if wrong > 0 {
+        return Err("some answers differ".into());
+    }
+    Ok(())
+}
+
 pub fn batch(rt: &LibcRuntime) -> Result<(), AnyError> {
     let heap = rt.alloc();
     let mut input = Vec::new(heap);
     rt.stdin().read_to_end(&mut input)?;
-    let mut bench = Bench {
-        bytes: Vec::new(heap),
-        code: Vec::new(heap),
-    };
+    let mut bench = Bench::new(heap);
     let mut out = String::new(heap);
     let mut rest = Some(input.as_slice());
     for _ in 0..=input.len() {

@@ -1,16 +1,20 @@
 // spl: the toolchain's program. What matters is in the libraries; here files and lines become calls, and answers text.
 mod batch;
+mod cutting;
 mod fields;
 mod listing;
 mod meaning;
+mod source;
 
 use std::alloc::Global;
 use std::env;
 use std::error::AnyError;
 
 const USAGE: &str = "usage: spl COMMAND [then COMMAND]...
-  list IMAGE   print what an image holds: its figures, then each instruction
-  batch        answer the requests on standard input, one line to each
+  tokens SOURCE  print the tokens of a source, each with its place
+  list IMAGE     print what an image holds: its figures, then each instruction
+  check TABLE    answer the requests of a table, and compare with the answers there
+  batch          answer the requests on standard input, one line to each
 ";
 
 fn usage(rt: &LibcRuntime) -> Result<(), AnyError> {
@@ -23,6 +27,8 @@ fn command(rt: &LibcRuntime, words: &[String]) -> Result<(), AnyError> {
     match words {
         [] => usage(rt),
         [name] if name.as_str() == "batch" => batch::batch(rt),
+        [name, path] if name.as_str() == "tokens" => cutting::tokens(rt, path.as_str()),
+        [name, path] if name.as_str() == "check" => batch::check(rt, path.as_str()),
         [name, path] if name.as_str() == "list" => listing::list(rt, path.as_str()),
         _ => {
             usage(rt)?;

@@ -1,4 +1,5 @@
-// What numbers mean, in words.
+// What numbers and symbols mean, in words.
+use text::token::Symbol;
 use words::refusal::Refusal;
 
 const MNEMONICS: [&str; 34] = [
@@ -48,6 +49,10 @@ pub fn mnemonic(number: u16) -> &'static str {
 // A sentence on each refusal.
 pub fn sentence(r: Refusal) -> &'static str {
     match r.number {
+        1 => "the source has over 32768 bytes",
+        2 => "no token begins here",
+        3 => "a bad or oversized word or number",
+        4 => "a comment has no end",
         20 => "the image is cut short",
         21 => "a number begins with a group of zeros",
         22 => "a number is over 65535",
@@ -59,5 +64,29 @@ pub fn sentence(r: Refusal) -> &'static str {
         28 => "the entry or the header is no code's",
         36 => "the store has no such cell",
         _ => "refused",
+    }
+}
+
+// How a symbol is written.
+pub fn spelling(s: Symbol) -> &'static str {
+    match s {
+        Symbol::Becomes => ":=",
+        Symbol::Unequal => "<>",
+        Symbol::AtMost => "<=",
+        Symbol::AtLeast => ">=",
+        Symbol::Semicolon => ";",
+        Symbol::Comma => ",",
+        Symbol::Dot => ".",
+        Symbol::Open => "(",
+        Symbol::Close => ")",
+        Symbol::Colon => ":",
+        Symbol::Equal => "=",
+        Symbol::Less => "<",
+        Symbol::Greater => ">",
+        Symbol::Plus => "+",
+        Symbol::Minus => "-",
+        Symbol::Times => "*",
+        Symbol::Divide => "/",
+        Symbol::Ampersand => "&",
     }
 }

@@ -8,14 +8,14 @@ use native.Mathlib.Numerals.{one-add}
 use native.Mathlib.Omega.{arith}
 use lib.Dec.{eqb, leb, ltb}
 use lib.ListN.{length, take, drop}
-use Rattle.std.proofs.shelf.Tests.{cases-bool, ne-eqb, and-parts, and-left, and-right, leb-true, lt-leb, cond-both, eq-eqb, eqb-true, eqb-false}
+use Rattle.std.proofs.shelf.Tests.{cases-bool, or-from, ne-eqb, and-parts, and-left, and-right, leb-true, lt-leb, cond-both, eq-eqb, eqb-true, eqb-false}
 use Rattle.std.specs.shelf.Lists.{leading, All}
 use Rattle.text.specs.declared.token.Symbol.{Symbol}
 use Rattle.text.specs.declared.token.Symbol.the-variants as sym·
 use Rattle.text.specs.declared.scan.Start.{Start}
 use Rattle.text.specs.declared.scan.Start.the-variants.{Letter, Decimal, Percent, Comment, Other}
 use Rattle.text.specs.declared.scan.Class.{Class}
-use Rattle.text.specs.Lexemes.{capital, digit, passes, opens, startOf, symbolText}
+use Rattle.text.specs.Lexemes.{blank, capital, digit, passes, opens, startOf, symbolText}
 use Rattle.text.specs.Forms.{AllOf, WordForm, IntegerForm, LogicalForm, SymbolForm, Form}
 use Rattle.text.proofs.Signs.{symbol-long}
 
@@ -106,3 +106,37 @@ pub not-opens : (b : ℕ) (bs : List ℕ) (k : Start) → kindOf b ≡ k → (k 
 not-opens b [] k h not = refl
 not-opens b (d ∷ bs) k h not =
     ⊎-elim (λ e. let is : kindOf b ≡ Other = ap kindOf (eqb-true b 60 e) in absurd (not (sym h ∙ is))) (λ e. and-left (eqb b 60) (eqb d 60) e) (cases-bool (eqb b 60))
+
+-- no token begins with a blank
+abbrev HeadFirm : List ℕ → Type 0
+HeadFirm [] = ⊥
+HeadFirm (b ∷ bs) = blank b ≡ false
+
+symbol-firm : (s : Symbol) → HeadFirm (symbolText s)
+symbol-firm sym·.Becomes = refl
+symbol-firm sym·.Unequal = refl
+symbol-firm sym·.AtMost = refl
+symbol-firm sym·.AtLeast = refl
+symbol-firm sym·.Semicolon = refl
+symbol-firm sym·.Comma = refl
+symbol-firm sym·.Dot = refl
+symbol-firm sym·.Open = refl
+symbol-firm sym·.Close = refl
+symbol-firm sym·.Colon = refl
+symbol-firm sym·.Equal = refl
+symbol-firm sym·.Less = refl
+symbol-firm sym·.Greater = refl
+symbol-firm sym·.Plus = refl
+symbol-firm sym·.Minus = refl
+symbol-firm sym·.Times = refl
+symbol-firm sym·.Divide = refl
+symbol-firm sym·.Ampersand = refl
+
+large-blank : (b : ℕ) → 32 < b → blank b ≡ false
+large-blank b h = or-from (eqb b 32) _ (ne-eqb b 32 (λ e. omega arith)) (or-from (eqb b 13) _ (ne-eqb b 13 (λ e. omega arith)) (ne-eqb b 10 (λ e. omega arith)))
+
+pub kind-blank : (b : ℕ) (bs : List ℕ) → Form (b ∷ bs) → blank b ≡ false
+kind-blank b bs (inl w) = large-blank b (omega (arith, leb-true 65 b (and-parts (leb 65 b) (leb b 90) (w .0) .0)))
+kind-blank b bs (inr (inl w)) = large-blank b (omega (arith, leb-true 48 b (and-parts (leb 48 b) (leb b 57) (w .0) .0)))
+kind-blank b bs (inr (inr (inl w))) = large-blank b (omega (arith, w .0))
+kind-blank b bs (inr (inr (inr w))) = subst HeadFirm (sym (w .1)) (symbol-firm (w .0))

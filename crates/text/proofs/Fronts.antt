@@ -72,11 +72,11 @@ module _ (s : List ℕ) (i : ℕ) (p : 1 ≤ i) (so : closing s ≡ mapped (λ n
       let step : closing (drop (i - 1) s) ≡ mapped (λ n. n + 1) (closing (drop i s)) = closing-at s (i - 1) l ∙ rw (e, t) in
       rw f (so ∙ rw (step) (counted (closing (drop i s)) (i - 1) i e))
 
-  pub closing-here : i < length s → getD s (i - 1) 0 ≡ 62 → getD s i 0 ≡ 62 → Some (i + 1) ≡ closing s
-  closing-here h a b =
+  pub closing-here : i < length s → (eqb (getD s (i - 1) 0) 62 && eqb (getD s i 0) 62) ≡ true → Some (i + 1) ≡ closing s
+  closing-here h t =
       let e : (i - 1) + 1 ≡ i = omega arith in
       let l : (i - 1) + 1 < length s = omega arith in
-      let step : closing (drop (i - 1) s) ≡ Some 2 = closing-at s (i - 1) l ∙ rw (e, a, b) in
+      let step : closing (drop (i - 1) s) ≡ Some 2 = closing-at s (i - 1) l ∙ rw (e, t) in
       let f : (i - 1) + 2 ≡ i + 1 = omega arith in
       sym (so ∙ rw (step, f))
 

@@ -1,8 +1,9 @@
-mod Fronts
-mod Cutting
-mod Signs
-mod Wholes
-mod Lookups
-mod FirstBytes
-mod Sound
-mod Readings
+pub mod Fronts
+pub mod Cutting
+pub mod Signs
+pub mod Wholes
+pub mod Lookups
+pub mod FirstBytes
+pub mod Sound
+pub mod Readings
+pub mod Unique

@@ -19,6 +19,7 @@ use Rattle.text.specs.Cut.{Piece, Front, onward, widthOf, Cut, lexeme, cut, le
 use Rattle.text.specs.Theorems.{Part, token, spelling, tokensIn, Right, AllRight, Refused, Ending, Reading, Text-stands}
 use Rattle.text.proofs.Cutting.{Wide, lexeme-wide}
 use Rattle.text.proofs.Sound.{Sound, lexeme-sound, Gap, gap-part}
+use Rattle.text.proofs.Unique.{reading-one}
 use Rattle.text.proofs.Wholes.{texted-long}
 
 abbrev Ended : Option Refusal → (place : ℕ) → (rest : List ℕ) → Type 0
@@ -107,4 +108,9 @@ text-reads source h =
     rw (le-ltb 32768 (length source) h) (ended source (cut (length source) 0 source) (read (length source) 0 0 source z))
 
 pub text-stands : Text-stands
-text-stands = (text-reads, texted-long)
+text-stands =
+    record {
+      reads = text-reads;
+      alone = λ source answer h x. reading-one source answer (texted source) x (text-reads source h);
+      long = texted-long;
+    }

@@ -53,13 +53,13 @@ closed : (b : ℕ) (bs : List ℕ) (n : ℕ) → opens (b ∷ bs) ≡ false → 
 closed b bs n h = rw (take-append-drop n (b ∷ bs)) h
 
 -- what the first byte of a token says
-abbrev pieceKind : Piece → Start
+abbrev pub pieceKind : Piece → Start
 pieceKind (word text p) = Letter
 pieceKind (number text Integer v p) = Decimal
 pieceKind (number text Logical v p) = Percent
 pieceKind (symbol s p) = Other
 
-spells-kind : (t : Piece) (b : ℕ) (bs : List ℕ) → Spells t (b ∷ bs) → kindOf b ≡ pieceKind t
+pub spells-kind : (t : Piece) (b : ℕ) (bs : List ℕ) → Spells t (b ∷ bs) → kindOf b ≡ pieceKind t
 spells-kind (word text p) b bs h = kind-letter b (h .1 .0)
 spells-kind (number text Integer v p) b bs h = kind-decimal b (h .1 .0)
 spells-kind (number text Logical v p) b bs h = kind-percent b (h .1 .0)

@@ -77,7 +77,9 @@ pub record Reading (source : List ℕ) (answer : Result (List Piece) Refusal) : 
   pub right : AllRight 0 parts rest
   pub ending : Ending answer parts rest
 
-abbrev pub Text-stands : Type 0
-Text-stands =
-    ((source : List ℕ) → length source ≤ 32768 → Reading source (texted source))
-    × ((source : List ℕ) → 32768 < length source → texted source ≡ refuse 1 32768)
+-- A source of at most 32,768 bytes has a reading with the answer that the cutting gives, and with no other; a longer
+-- one is refused.
+pub record Text-stands : Type 0 where
+  pub reads : (source : List ℕ) → length source ≤ 32768 → Reading source (texted source)
+  pub alone : (source : List ℕ) (answer : Result (List Piece) Refusal) → length source ≤ 32768 → Reading source answer → answer ≡ texted source
+  pub long : (source : List ℕ) → 32768 < length source → texted source ≡ refuse 1 32768

@@ -1,8 +1,9 @@
 // The next token of a text. Its words and numbers are parts of the text.
 ghost use mathlib.Core.Path.{_≡_};
-ghost use Prim.Native.Nat.{ℕ, _+_, _<_, _≤_};
-ghost use lib.Dec.{T};
-ghost use lib.ListN.{length, drop};
+ghost use Prim.Native.Nat.{ℕ, _+_, _-_, _<_, _≤_};
+ghost use lib.Dec.{T, eqb};
+ghost use mathlib.Core.Bool.{_&&_};
+ghost use lib.ListN.{length, drop, getD};
 ghost use Rattle.std.specs.shelf.Lists.{leading};
 ghost use Rattle.std.specs.Options.{Cases as BySome};
 ghost use Rattle.text.specs.Lexemes.{passes, valueOf, baseOf, mostOf, digitOf, gapOf, signOf, blanks, opens, startOf};
@@ -95,13 +96,21 @@ fn value(digits: &[u8], kind: Kind) -> Option<u16>
     Some(n as u16)
 }
 
+// A `>>` ends with the byte at `i`.
+fn ends_at(s: &[u8], i: usize) -> bool
+    requires { ⌜ 1 ≤ i ⌝ ∗ ⌜ i < length (now s) ⌝ }
+    ensures { λ r. ⌜ r ≡ (eqb (getD (now (s .entry)) (i - 1) 0) 62 && eqb (getD (now (s .entry)) i 0) 62) ⌝ }
+{
+    s[i - 1] == b'>' && s[i] == b'>'
+}
+
 // How many bytes there are up to the end of the next `>>`.
 fn closing(s: &[u8]) -> Option<usize>
     ensures value { λ r. ⌜ r ≡ closingOf (now (s .entry)) ⌝ }
     ensures bound { λ r. ⌜ BySome r (Unit {0}) (λ n. n ≤ length (now (s .entry))) ⌝ }
 {
     for i in 1..s.len() {
-        if s[i - 1] == b'>' && s[i] == b'>' {
+        if ends_at(s, i) {
             return Some(i + 1);
         }
     }

@@ -20,8 +20,8 @@ pub fn find<T: Named>(table: &[T], name: &[u8]) -> Option<usize>
     ensures first { λ r. ⌜ First (map (T·Named .spelled) (now (table .entry))) (now (name .entry)) r ⌝ }
     ensures bound { λ r. ⌜ Cases r (Unit {0}) (λ i. i < length (now (table .entry))) ⌝ }
 {
-    for (i, t) in table.iter().enumerate() {
-        if t.name() == name {
+    for i in 0..table.len() {
+        if table[i].name() == name {
             return Some(i);
         }
     }
@@ -38,6 +38,11 @@ pub impl Named for Name as NameNamed {
 }
 
 impl Name {
+    pub const EMPTY: Name = Name {
+        bytes: [0; 15],
+        len: 0,
+    };
+
     // The name that these bytes spell, if they are at most 15.
     pub fn new(text: &[u8]) -> Option<Name>
         ensures { λ r. ⌜ mapped nameOf r ≡ shortName (now (text .entry)) ⌝ }

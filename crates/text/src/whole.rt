@@ -4,8 +4,6 @@ ghost use Rattle.text.specs.declared.whole.TokensFault.the-variants.{Text, Mem
 ghost use Rattle.text.specs.Whole.{Checked, Listed};
 ghost use Rattle.text.specs.Theorems.{Text-stands};
 use crate::fault::TextFault;
-use crate::fault::TextFaultDebug;
-use crate::fault::TextFaultPartialEq;
 use crate::scan::next;
 use crate::scan::peek;
 use crate::token::Token;
@@ -29,7 +27,7 @@ pub fn check(source: &[u8]) -> Result<(), TextFault>
 }
 
 // Why there is no list of tokens: the text is refused, or no memory is left for it.
-#[derive(Clone, Copy, PartialEq, Debug)]
+#[derive(Clone, Copy)]
 pub enum TokensFault {
     Text(TextFault),
     Memory,
