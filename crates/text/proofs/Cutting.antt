@@ -7,8 +7,8 @@ use Prim.Native.Nat.{ℕ, zero, suc, _+_, _-_, _*_, _<_, _≤_}
 use native.Mathlib.Omega.{arith}
 use lib.Dec.{eqb, leb, ltb}
 use lib.ListN.{length, getD, take, drop}
-use Rattle.std.proofs.shelf.Lists.{take-rest, length-drop, length-append, drop-all}
-use Rattle.std.proofs.shelf.Tests.{ne-eqb, eq-eqb, eqb-true, eqb-false, cases-bool, cond-both}
+use Rattle.std.proofs.shelf.Lists.{take-rest, length-drop, length-take, length-append, drop-all}
+use Rattle.std.proofs.shelf.Tests.{ne-eqb, eq-eqb, eqb-true, eqb-false, leb-true, cases-bool, cond-both}
 use Rattle.std.proofs.shelf.Sums.{leading-le-length}
 use Rattle.std.specs.shelf.Lists.{leading}
 use Rattle.std.specs.Vec.{made}
@@ -30,7 +30,7 @@ use Rattle.text.specs.declared.scan.Class.{Class}
 use Rattle.text.proofs.Signs.{Stands, sign-stands, symbol-long}
 use Rattle.text.specs.Lexemes.{capital, digit, opens, symbolText, startOf, signOf, passes, digitOf, baseOf, mostOf, valueOf, within, gapOf}
 use Rattle.text.specs.Faults.{refusalOf}
-use Rattle.text.specs.Cut.{Cut, Next, fronted, onward, widthOf, after, firstOf, piece, Piece, word, lexed, wordOf, symbolOf, Front, good, nexted, nextOf, Steps, numberOf, valued, past, lexeme, cut, left, fault}
+use Rattle.text.specs.Cut.{Cut, Next, Short, fronted, onward, widthOf, after, firstOf, piece, Piece, word, lexed, wordOf, symbolOf, Front, good, nexted, nextOf, Steps, numberOf, valued, past, lexeme, cut, left, fault}
 
 -- to skip is to drop
 past-skips : (k : ℕ) (bs : List ℕ) → past k bs ≡ past 0 (drop k bs)
@@ -131,6 +131,38 @@ lexeme-wide p xs = lexed-wide p xs (startOf xs) refl
 pub made-wide : (p : ℕ) (xs : List ℕ) (r : Result (Token × ℕ) TextFault) → fronted r ≡ lexeme p xs → made r (λ q. q .1 ≤ length xs)
 made-wide p xs (Ok q) e = subst (Wide (length xs)) (sym e) (lexeme-wide p xs) .1
 made-wide p xs (Err f) e = tt
+
+-- a word that is cut is short
+abbrev ShortFront : Front → Type 0
+ShortFront (Ok f) = Short (f .0)
+ShortFront (Err e) = Unit {0}
+
+short-number : (p lead n : ℕ) (kind : Kind) (xs : List ℕ) → ShortFront (numberOf p lead n kind xs)
+short-number p lead n kind xs = cond-both (eqb n 0) (refuse 3 p) (valued p (lead + n) kind xs found) ShortFront (λ e. tt) (λ e. by found)
+  where
+    found : Option ℕ
+    found = within (mostOf kind) (valueOf (baseOf kind) 0 (take n (drop lead xs)))
+
+    by : (o : Option ℕ) → ShortFront (valued p (lead + n) kind xs o)
+    by None = tt
+    by (Some v) = tt
+
+short-symbol : (p : ℕ) (o : Option (Symbol × ℕ)) → ShortFront (symbolOf p o)
+short-symbol p None = tt
+short-symbol p (Some f) = tt
+
+lexed-short : (p : ℕ) (xs : List ℕ) (st : Start) → ShortFront (lexed p xs st)
+lexed-short p xs Letter =
+    let n = leading (passes WordByte) xs in
+    cond-both (leb n 15) (good (word (take n xs) p) n) (refuse 3 p) ShortFront (λ e. omega (arith, leb-true n 15 e, length-take n xs)) (λ e. tt)
+lexed-short p xs Decimal = short-number p 0 (leading (passes (digitOf Integer)) (drop 0 xs)) Integer xs
+lexed-short p xs Percent = short-number p 1 (leading (passes (digitOf Logical)) (drop 1 xs)) Logical xs
+lexed-short p xs Comment = tt
+lexed-short p xs Other = short-symbol p (signOf xs)
+
+pub short-token : (p : ℕ) (xs : List ℕ) (t : Piece) (n : ℕ) → good t n ≡ lexeme p xs → Short t
+unfolding lexeme
+short-token p xs t n e = subst ShortFront (sym e) (lexed-short p xs (startOf xs))
 
 -- what stands first once blanks and comments are passed over
 past-stops : (k : ℕ) (bs : List ℕ) → gapOf (past k bs) ≡ 0

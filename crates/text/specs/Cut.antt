@@ -2,7 +2,7 @@
 use mathlib.Core.Path.{_≡_}
 use mathlib.Core.Bool.{Bool, cond}
 use mathlib.Core.List.{List, [], _∷_}
-use Prim.Native.Nat.{ℕ, zero, suc, _+_, _-_, _<_}
+use Prim.Native.Nat.{ℕ, zero, suc, _+_, _-_, _<_, _≤_}
 use lib.Dec.{eqb, leb, ltb}
 use lib.ListN.{length, take, drop}
 use denote.Ref.{RefT}
@@ -36,6 +36,12 @@ abbrev pub piece : Token → Piece
 piece (token.Word text p) = word (text .now) p
 piece (token.Number text kind n p) = number (text .now) kind n p
 piece (token.Symbol s p) = symbol s p
+
+-- a word has at most 15 bytes
+abbrev pub Short : Piece → Type 0
+Short (word text p) = length text ≤ 15
+Short (number text kind v p) = Unit {0}
+Short (symbol s p) = Unit {0}
 
 -- a token and how many bytes it takes
 abbrev pub Front : Type 0

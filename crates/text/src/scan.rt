@@ -11,7 +11,7 @@ ghost use mathlib.Core.List.{[], _∷_};
 ghost use Rattle.std.specs.Options.{mapped};
 ghost use Rattle.std.specs.Vec.{made};
 ghost use Rattle.text.specs.declared.scan.Start.the-variants.{Percent};
-ghost use Rattle.text.specs.Cut.{fronted, wordOf, numberOf, symbolOf, past, nextOf, nexted, found, loosened, piece, left, Steps};
+ghost use Rattle.text.specs.Cut.{fronted, wordOf, numberOf, symbolOf, past, nextOf, nexted, found, loosened, piece, left, Steps, Short};
 ghost use Rattle.text.specs.Cut.{lexeme as lexemeOf};
 ghost use Rattle.text.specs.declared.scan.Class.the-variants.{WordByte};
 ghost use Rattle.text.specs.Lexemes.{within as withinOf, closing as closingOf};
@@ -119,8 +119,7 @@ fn closing(s: &[u8]) -> Option<usize>
 
 // The symbol at the front, and how many bytes it takes: those of two bytes are tried first.
 fn sign(s: &[u8]) -> Option<(Symbol, usize)>
-    ensures value { λ r. ⌜ r ≡ signOf (now (s .entry)) ⌝ }
-    ensures bound { λ r. ⌜ BySome r (Unit {0}) (λ p. (0 < p .1) × (p .1 ≤ length (now (s .entry)))) ⌝ }
+    ensures { λ r. ⌜ r ≡ signOf (now (s .entry)) ⌝ }
 {
     match s {
         [b':', b'=', ..] => Some((Symbol::Becomes, 2)),
@@ -278,6 +277,7 @@ fn lexeme<'a>(s: &'a [u8], place: usize) -> Result<(Token<'a>, usize), TextFault
 pub fn next<'a>(text: &'a [u8], end: usize) -> Result<Option<(Token<'a>, &'a [u8])>, TextFault>
     ensures exact { λ r. ⌜ nexted r ≡ nextOf end (now (text .entry)) ⌝ }
     ensures steps { λ r. ⌜ Steps end (now (text .entry)) r ⌝ }
+    ensures short { λ r. ⌜ made r (λ o. BySome o (Unit {0}) (λ x. Short (piece (x .0)))) ⌝ }
 {
     let rest = trimmed(text);
     if rest.is_empty() {
@@ -291,6 +291,7 @@ pub fn next<'a>(text: &'a [u8], end: usize) -> Result<Option<(Token<'a>, &'a [u8
 pub fn peek<'a>(text: &'a [u8], end: usize) -> Option<(Token<'a>, &'a [u8])>
     ensures exact { λ r. ⌜ mapped loosened r ≡ found (nextOf end (now (text .entry))) ⌝ }
     ensures steps { λ r. ⌜ BySome r (left end (now (text .entry)) ≡ []) (λ x. (left end (now (text .entry)) ≡ piece (x .0) ∷ left end (now (x .1))) × (length (now (x .1)) < length (now (text .entry)))) ⌝ }
+    ensures short { λ r. ⌜ BySome r (Unit {0}) (λ x. Short (piece (x .0))) ⌝ }
 {
     match next(text, end) {
         Ok(found) => found,

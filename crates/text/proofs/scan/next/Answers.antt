@@ -7,7 +7,7 @@ use Rattle.std.proofs.shelf.Tests.{eqb-true, eqb-false}
 use Rattle.std.specs.declared.result.Result.the-variants.{Err}
 use Rattle.text.specs.Faults.{refusalOf}
 use Rattle.text.specs.Cut.{Front, good, piece, lexeme}
-use Rattle.text.proofs.Cutting.{first-none, next-refused, next-token, steps-none, steps-refused, steps-token}
+use Rattle.text.proofs.Cutting.{first-none, next-refused, next-token, steps-none, steps-refused, steps-token, short-token}
 use Rattle.text.proofs.scan.next.Needs as need
 
 pub returns-then-is-empty : need.returns-then-is-empty
@@ -17,6 +17,7 @@ returns-then-is-empty c =
     record {
       exact = sym (first-none (c .args .end) (c .args .text .now) xs (c .trimmed-rest .ensures) z);
       steps = steps-none (c .args .end) (c .args .text .now) xs (c .trimmed-rest .ensures) z;
+      short = tt;
     }
 
 pub returns-in-Break-token : need.returns-in-Break-token
@@ -30,6 +31,7 @@ returns-in-Break-token c =
     (record {
       exact = next-refused (c .args .end) (c .args .text .now) xs (c .trimmed-rest .ensures) z f l;
       steps = steps-refused (c .args .end) (c .args .text .now) xs (c .trimmed-rest .ensures) z f l;
+      short = tt;
     })
 
 pub returns : need.returns
@@ -42,4 +44,5 @@ returns c =
     record {
       exact = next-token (c .args .end) (c .args .text .now) xs (c .trimmed-rest .ensures) z t n _ l (take-rest xs n);
       steps = steps-token (c .args .end) (c .args .text .now) xs (c .trimmed-rest .ensures) z t n _ l (take-rest xs n);
+      short = short-token _ xs (piece t) n l;
     }
