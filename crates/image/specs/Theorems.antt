@@ -21,6 +21,10 @@ pub record IsCode (k : Code) : Type 0 where
   pub depth : k .depth < 65536
   pub entries : Entries (k .entries)
 
+-- these bytes are the image of a code
+abbrev pub ImageOf : Code → List ℕ → Type 0
+ImageOf k bs = IsCode k × (bs ≡ image k)
+
 abbrev pub Bytes : List ℕ → Type 0
 Bytes bs = (i : ℕ) → getD bs i 0 < 256
 

@@ -2,7 +2,10 @@
 ghost use mathlib.Core.Path.{_≡_};
 ghost use mathlib.Core.List.{[], List};
 ghost use Prim.Native.Nat.{_≤_};
-ghost use lib.ListN.{length};
+ghost use lib.ListN.{length, take};
+ghost use Rattle.std.specs.Results.{Cases};
+ghost use Rattle.image.specs.Codes.{coded};
+ghost use Rattle.image.specs.Theorems.{ImageOf};
 ghost use Rattle.words.specs.declared.instr.Instr.{Instr as Entry};
 ghost use Rattle.image.specs.Cursors.{Walked, Ended, Filled, rest-of};
 ghost use Rattle.image.specs.Faults.{refusalOf};
@@ -49,10 +52,11 @@ fn fill(cursor: &mut Cursor<'_>, count: u16, table: &mut [Instr]) -> Result<(), 
     cursor.ends()
 }
 
-// Reads an image into the table. A refusal leaves the table as it was, and entries past those read keep what they held.
+// Reads an image into the table. What is accepted is the image of the code that then stands there. A refusal leaves the table as it was, and entries past those read keep what they held.
 pub fn decode(bytes: &[u8], table: &mut [Instr]) -> Result<Figures, ImageFault>
     ensures answer { λ r. ⌜ told refusalOf r ≡ figured (decoded (length (now (table .entry))) (now (bytes .entry))) ⌝ }
     ensures after { λ _. ⌜ now (table .exit) ≡ laid (decoded (length (now (table .entry))) (now (bytes .entry))) (now (table .entry)) ⌝ }
+    ensures of { λ r. ⌜ Cases r (λ f. ImageOf (coded (f .cells) (f .depth) (take (f .count) (now (table .exit)))) (now (bytes .entry))) (λ _. Unit {0}) ⌝ }
 {
     let end = bytes.len();
     let mut cursor = Cursor { rest: bytes, end };

@@ -14,13 +14,13 @@ use crate::fields::instrs;
 use crate::fields::last;
 use crate::fields::number;
 use crate::fields::word;
+use crate::source::load;
 use image::read::decode;
 use image::write::encode;
 use std::alloc::AllocError;
 use std::alloc::Global;
 use std::error::AnyError;
 use std::fmt::Write;
-use std::fs;
 use std::io::Read;
 use text::whole::TokensFault;
 use words::instr::Instr;
@@ -223,7 +223,7 @@ fn holds(rt: &LibcRuntime, bench: &mut Bench, line: &[u8]) -> Result<bool, AnyEr
 // `spl check`: a table of requests with their answers; lines that begin with `#`, and empty ones, are passed over.
 pub fn check(rt: &LibcRuntime, path: &str) -> Result<(), AnyError> {
     let heap = rt.alloc();
-    let input = fs::read(rt, path)?;
+    let input = load(rt, path)?;
     let mut bench = Bench::new(heap);
     let mut rest = Some(input.as_slice());
     let mut count = 0u64;

@@ -4,11 +4,11 @@ use crate::fields::ProblemFromAlloc;
 use crate::fields::ProblemFromFormat;
 use crate::meaning::spelling;
 use crate::source::TOP;
+use crate::source::load;
 use crate::source::onward;
 use crate::source::tell;
 use std::error::AnyError;
 use std::fmt::Write;
-use std::fs;
 use text::reserved::keyword;
 use text::token::Kind;
 use text::token::Token;
@@ -99,7 +99,7 @@ fn lines(rt: &LibcRuntime, source: &[u8], tokens: &[Token<'_>]) -> Result<(), An
 }
 
 pub fn tokens(rt: &LibcRuntime, path: &str) -> Result<(), AnyError> {
-    let source = fs::read(rt, path)?;
+    let source = load(rt, path)?;
     match text::whole::tokens(rt.alloc(), source.as_slice()) {
         Ok(list) => lines(rt, source.as_slice(), list.as_slice()),
         Err(TokensFault::Text(fault)) => tell(rt, path, source.as_slice(), fault.refusal()),

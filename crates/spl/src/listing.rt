@@ -1,12 +1,12 @@
 // `spl list`: what an image holds.
 use crate::meaning::mnemonic;
 use crate::meaning::sentence;
+use crate::source::load;
 use image::Figures;
 use image::read::decode;
 use image::write::entry_size;
 use image::write::size;
 use std::error::AnyError;
-use std::fs;
 use words::instr::Instr;
 use words::instr::operands;
 
@@ -46,7 +46,7 @@ fn lines(rt: &LibcRuntime, figures: Figures, bytes: usize, code: &[Instr]) -> Re
 }
 
 pub fn list(rt: &LibcRuntime, path: &str) -> Result<(), AnyError> {
-    let bytes = fs::read(rt, path)?;
+    let bytes = load(rt, path)?;
     let mut table = vec![in rt.alloc(); EMPTY; 16383]?;
     match decode(bytes.as_slice(), table.as_mut_slice()) {
         Ok(figures) => {

@@ -2,6 +2,7 @@
 use crate::meaning::sentence;
 use std::alloc::Global;
 use std::error::AnyError;
+use std::fs;
 use words::refusal::Refusal;
 
 // A place by its line and column, both from 1, and where the line begins.
@@ -32,6 +33,17 @@ pub fn onward(source: &[u8], spot: Spot, from: usize, to: usize) -> Spot {
         line,
         column: to.saturating_sub(start).saturating_add(1),
         start,
+    }
+}
+
+// The bytes of a file, or its name and that it cannot be read.
+pub fn load(rt: &LibcRuntime, path: &str) -> Result<Vec<u8>, AnyError> {
+    match fs::read(rt, path) {
+        Ok(bytes) => Ok(bytes),
+        Err(_) => {
+            println!(rt, "{path}: cannot be read")?;
+            Err("a file cannot be read".into())
+        }
     }
 }
 
