@@ -22,6 +22,7 @@ use std::alloc::Global;
 use std::error::AnyError;
 use std::fmt::Write;
 use std::io::Read;
+use syntax::workspace::Workspace;
 use text::whole::TokensFault;
 use words::instr::Instr;
 use words::refusal::Refusal;
@@ -160,12 +161,34 @@ fn tokens(
     }
 }
 
+// parse HEX
+fn parse(
+    heap: Global,
+    bench: &mut Bench,
+    rest: Option<&[u8]>,
+    out: &mut String,
+) -> Result<(), Problem> {
+    let (bytes, rest) = field(rest)?;
+    last(rest)?;
+    hex(bytes, &mut bench.bytes)?;
+    let mut work = Workspace::new(heap)?;
+    match work.read(bench.bytes.as_slice()) {
+        Ok(()) => {
+            let entries = work.nodes().len();
+            write!(out, "ok {entries}")?;
+            Ok(())
+        }
+        Err(fault) => refused(out, fault.refusal()),
+    }
+}
+
 fn request(heap: Global, bench: &mut Bench, line: &[u8], out: &mut String) -> Result<(), Problem> {
     let (name, rest) = cut(line, b' ');
     match name {
         b"imagein" => image_in(heap, bench, rest, out),
         b"imageout" => image_out(heap, bench, rest, out),
         b"tokens" => tokens(heap, bench, rest, out),
+        b"parse" => parse(heap, bench, rest, out),
         _ => Err(Problem::NotRequest("no such request")),
     }
 }

@@ -53,6 +53,8 @@ pub fn sentence(r: Refusal) -> &'static str {
         2 => "no token begins here",
         3 => "a bad or oversized word or number",
         4 => "a comment has no end",
+        5 => "no program begins so, up to and with this token",
+        6 => "level 33 is opened here",
         20 => "the image is cut short",
         21 => "a number begins with a group of zeros",
         22 => "a number is over 65535",

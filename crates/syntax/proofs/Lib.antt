@@ -1,0 +1,6 @@
+mod Cuts
+mod Puts
+mod Sofar
+mod Ranks
+mod Befores
+mod Whole

@@ -1,0 +1,12 @@
+use mathlib.Core.Bool.{true}
+use mathlib.Core.List.{[], _∷_}
+use Rattle.syntax.specs.Machine.{comma}
+use Rattle.syntax.specs.Readers.{weight}
+use Rattle.syntax.proofs.Sofar.{Sofar}
+use Rattle.syntax.proofs.reader.Reader.items.Given as given
+
+abbrev pub Inv-loop-kind : given.InvT-loop-kind
+Inv-loop-kind l = Sofar (comma true (l .kind) ∷ []) (l .entry .self) (l .self)
+
+abbrev pub μ-loop-kind : given.MeasureT-loop-kind
+μ-loop-kind l = weight (l .self)
