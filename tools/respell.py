@@ -1794,11 +1794,15 @@ zero-expr
 """
 
 NAME = re.compile(r"[A-Za-z_][A-Za-z0-9_'\u207a\u2081]*(?:-[A-Za-z0-9_'\u207a\u2081]+)*")
+# what a file takes from outside keeps its name
+OUTSIDE = re.compile(r"(?m)^(?:ghost )?(?:pub )?use (?:Rattle\.std|lib|mathlib|native|borrow|Prim)[^{\n]*\{([^}]*)\}")
 ALIAS = re.compile(r"(?m)^\s*(?:pub )?use [^\s{]+ as (\w+)\s*$")
 
 
 def turned(text, names, fields, comment):
     aliases = set(ALIAS.findall(text)) - {"goal"}
+    taken = {n.strip().split(" as ")[0] for names_in in OUTSIDE.findall(text) for n in names_in.split(",")}
+    names = {a: b for a, b in names.items() if a not in taken}
     out = []
     for line in text.splitlines(keepends=True):
         body, sep, rest = line.partition(comment)

@@ -1,5 +1,5 @@
 -- The bits of a word.
-use Rattle.std.proofs.Common.{◌≡◌, ℕ, zero, suc, ◌+◌, ◌-◌, ◌*◌, ◌/◌, ◌%◌, ◌^◌, ◌<◌, ◌≤◌, Bool, true, false, cond, ◌⊎◌, sym, refl, ap, ◌∙◌, inl, inr, ⊎_elim, add_mul, arith}
+use Rattle.std.proofs.Common.{◌≡◌, ℕ, zero, suc, ◌+◌, ◌-◌, ◌*◌, ◌/◌, ◌%◌, ◌^◌, ◌<◌, ◌≤◌, Bool, true, false, cond, ◌⊎◌, sym, refl, ap, ◌∙◌, inl, inr, ⊎_elim, add-mul, arith}
 use lib.Bits.{bit_and, bit_or, bit_xor, xor_add_and}
 use lib.Pow.{mod-mod-pow}
 use Rattle.std.proofs.lemmas.Nat.{and_shr, or_shr, xor_shr, and_mod, or_mod, xor_mod, and_mask, pow_pos, pow-add, shr_high, shr-shr, field_of}
@@ -21,7 +21,7 @@ ones j m e =
     let q : 2 ^ (m + 1 + j) ≡ 2 ^ (m + 1) * 2 ^ j = pow-add 2 (m + 1) j in
     let o : 2 ^ (m + 1) ≡ 2 ^ m * 2 = pow-add 2 m 1 in
     let f : 2 ^ (m + 1) ≡ n + 1 = omega (arith, pow_pos (m + 1)) in
-    let g : 2 ^ (m + 1) * 2 ^ j ≡ n * 2 ^ j + 1 * 2 ^ j = ap (λ (i : ℕ). i * 2 ^ j) f ∙ add_mul n 1 (2 ^ j) in
+    let g : 2 ^ (m + 1) * 2 ^ j ≡ n * 2 ^ j + 1 * 2 ^ j = ap (λ (i : ℕ). i * 2 ^ j) f ∙ add-mul n 1 (2 ^ j) in
     let h : n * 2 ^ j + (2 ^ j - 1) ≡ 65535 = omega (arith, pow_pos j) in
     let t : 65535 / 2 ^ j ≡ n = ap (λ (i : ℕ). i / 2 ^ j) (sym h) ∙ shr_high n j (2 ^ j - 1) (omega (arith, pow_pos j)) in
     omega arith

@@ -2,7 +2,7 @@
 use Rattle.std.proofs.Common.{◌≡◌, ℕ, ◌<◌, ◌≤◌, Bool, true, false, cond, not, ◌||◌, eqb, ltb, ◌⊎◌, ℤ, pos, nat_abs, ◌≤ℤ◌, ◌<ℤ◌, sym, refl, ap, ◌∙◌, inl, inr, ⊎_elim, arith}
 use lib.Signed.{lt_z}
 use Rattle.std.proofs.lemmas.Int.{ints, by_lt_z}
-use Rattle.std.proofs.lemmas.Bool.{not_true, not-false, or_cases, or_parts, eqb-true, eqb-false}
+use Rattle.std.proofs.lemmas.Bool.{not-true, not-false, or_cases, or_parts, eqb-true, eqb-false}
 use Rattle.arith.specs.declared.relation.Relation.{Relation}
 use Rattle.arith.specs.declared.relation.Relation.TheVariants.{Equal, Unequal, Less, AtMost, Greater, AtLeast}
 use Rattle.arith.specs.Integers.{int}
@@ -23,7 +23,7 @@ not_less a b e = grind (arith, ints)
 -- where `same` tells whether the two are equal
 holds_says : (r : Relation) (a b : ℤ) (same : Bool) → (same ≡ true → a ≡ b) → (same ≡ false → a ≡ b → ⊥) → Says (truth (holds r (lt_z a b) same)) (Related r a b)
 holds_says Equal a b same t f = says (a ≡ b) same t f
-holds_says Unequal a b same t f = says (a ≡ b → ⊥) (not same) (λ e. f (not_true same e)) (λ e g. g (t (not-false same e)))
+holds_says Unequal a b same t f = says (a ≡ b → ⊥) (not same) (λ e. f (not-true same e)) (λ e g. g (t (not-false same e)))
 holds_says Less a b same t f = says (a <ℤ b) (lt_z a b) (less a b) (λ e g. let h = not_less a b e in omega (arith, ints))
 holds_says AtMost a b same t f =
     says (a ≤ℤ b) (lt_z a b || same)
@@ -32,12 +32,12 @@ holds_says AtMost a b same t f =
 holds_says Greater a b same t f =
     says (b <ℤ a) (not (lt_z a b || same))
     (λ e.
-    let p = or_parts (lt_z a b) same (not_true (lt_z a b || same) e) in
+    let p = or_parts (lt_z a b) same (not-true (lt_z a b || same) e) in
     let h = not_less a b p.0 in
     by_lt_z b a (λ g. g) (λ g. absurd (f p.1 (omega (arith, ints)))))
     (λ e g.
     ⊎_elim (λ p. let h = less a b p in omega (arith, ints)) (λ p. let h = t p in omega (arith, ints)) (or_cases (lt_z a b) same (not-false (lt_z a b || same) e)))
-holds_says AtLeast a b same t f = says (b ≤ℤ a) (not (lt_z a b)) (λ e. not_less a b (not_true (lt_z a b) e)) (λ e g. let h = less a b (not-false (lt_z a b) e) in omega (arith, ints))
+holds_says AtLeast a b same t f = says (b ≤ℤ a) (not (lt_z a b)) (λ e. not_less a b (not-true (lt_z a b) e)) (λ e g. let h = less a b (not-false (lt_z a b) e) in omega (arith, ints))
 
 pub compared_says : (r : Relation) (y x : ℕ) → (int y ≡ int x → y ≡ x) → Says (compared r y x) (Related r (int y) (int x))
 unfolding compared

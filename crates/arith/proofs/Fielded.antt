@@ -1,5 +1,5 @@
 -- Fields of a word.
-use Rattle.std.proofs.Common.{◌≡◌, ℕ, zero, suc, ◌+◌, ◌-◌, ◌*◌, ◌/◌, ◌%◌, ◌^◌, ◌<◌, ◌≤◌, Bool, true, false, cond, leb, ◌⊎◌, sym, refl, ap, ◌∙◌, inl, inr, ⊎_elim, mul_assoc, add_mul, arith}
+use Rattle.std.proofs.Common.{◌≡◌, ℕ, zero, suc, ◌+◌, ◌-◌, ◌*◌, ◌/◌, ◌%◌, ◌^◌, ◌<◌, ◌≤◌, Bool, true, false, cond, leb, ◌⊎◌, sym, refl, ap, ◌∙◌, inl, inr, ⊎_elim, mul_assoc, add-mul, arith}
 use native.Mathlib.Nat.{mod-mod}
 use Rattle.std.proofs.lemmas.Nat.{pow_pos, pow-add, mod_below, shr_high, mod_low, shr-shr}
 use Rattle.std.proofs.lemmas.Bool.{and_parts, leb-true}
@@ -23,7 +23,7 @@ in_pieces a b x v e =
     let f : s ≡ b + k = omega arith in
     let g : 2 ^ s ≡ 2 ^ b * 2 ^ k = ap (λ (n : ℕ). 2 ^ n) f ∙ pow-add 2 b k in
     let u : (hi * 2 ^ b + v % 2 ^ b) * 2 ^ k ≡ hi * 2 ^ s + v % 2 ^ b * 2 ^ k =
-    add_mul (hi * 2 ^ b) (v % 2 ^ b) (2 ^ k) ∙ ap (λ (n : ℕ). n + v % 2 ^ b * 2 ^ k) (mul_assoc hi (2 ^ b) (2 ^ k) ∙ ap (λ (n : ℕ). hi * n) (sym g)) in
+    add-mul (hi * 2 ^ b) (v % 2 ^ b) (2 ^ k) ∙ ap (λ (n : ℕ). n + v % 2 ^ b * 2 ^ k) (mul_assoc hi (2 ^ b) (2 ^ k) ∙ ap (λ (n : ℕ). hi * n) (sym g)) in
     ap (λ (n : ℕ). n + x % 2 ^ k) (sym u)
 
 -- the parts of a deposit

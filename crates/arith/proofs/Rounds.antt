@@ -1,5 +1,5 @@
 -- Sixteen bits cut in two.
-use Rattle.std.proofs.Common.{◌≡◌, ℕ, zero, suc, ◌+◌, ◌-◌, ◌*◌, ◌/◌, ◌%◌, ◌^◌, ◌<◌, ◌≤◌, sym, refl, ap, ◌∙◌, mul_assoc, mul_comm, add_mul, arith}
+use Rattle.std.proofs.Common.{◌≡◌, ℕ, zero, suc, ◌+◌, ◌-◌, ◌*◌, ◌/◌, ◌%◌, ◌^◌, ◌<◌, ◌≤◌, sym, refl, ap, ◌∙◌, mul_assoc, mul_comm, add-mul, arith}
 use Rattle.std.proofs.lemmas.Nat.{pow-add, pow_pos, shr_split, shr_below, mod_below, mul-add-lt, mod-mul-add, one_shl}
 
 pub whole : (b k : ℕ) → b + k ≡ 16 → 2 ^ k * 2 ^ b ≡ 65536
@@ -16,7 +16,7 @@ left_part x b k e h =
     let rl : r < 2 ^ k = mod_below x (2 ^ k) (pow_pos k) in
     let s : q * 2 ^ k + r ≡ x = shr_split x k in
     let m : x * 2 ^ b ≡ q * 65536 + r * 2 ^ b =
-    ap (λ (n : ℕ). n * 2 ^ b) (sym s) ∙ add_mul (q * 2 ^ k) r (2 ^ b) ∙ ap (λ (n : ℕ). n + r * 2 ^ b) (mul_assoc q (2 ^ k) (2 ^ b) ∙ ap (λ (n : ℕ). q * n) w) in
+    ap (λ (n : ℕ). n * 2 ^ b) (sym s) ∙ add-mul (q * 2 ^ k) r (2 ^ b) ∙ ap (λ (n : ℕ). n + r * 2 ^ b) (mul_assoc q (2 ^ k) (2 ^ b) ∙ ap (λ (n : ℕ). q * n) w) in
     let l : r * 2 ^ b + 0 < 2 ^ b * 2 ^ k = mul-add-lt r (2 ^ b) 0 (2 ^ k) rl (pow_pos b) in
     let c : 2 ^ b * 2 ^ k ≡ 65536 = mul_comm (2 ^ b) (2 ^ k) ∙ w in
     ap (λ (n : ℕ). n % 65536) m ∙ mod-mul-add q 65536 (r * 2 ^ b) (omega arith)
@@ -47,7 +47,7 @@ deposit_fits x v a b e h =
     let m = mul-add-lt hi (2 ^ b) w (2 ^ a) hl wl in
     let n : (hi * 2 ^ b + w) * 2 ^ k + lo < 2 ^ k * (2 ^ b * 2 ^ a) = mul-add-lt (hi * 2 ^ b + w) (2 ^ k) lo (2 ^ b * 2 ^ a) m ll in
     let g : 2 ^ s ≡ 2 ^ b * 2 ^ k = ap (λ (n : ℕ). 2 ^ n) f ∙ pow-add 2 b k in
-    let u : (hi * 2 ^ b + w) * 2 ^ k ≡ hi * 2 ^ s + w * 2 ^ k = add_mul (hi * 2 ^ b) w (2 ^ k) ∙ ap (λ (n : ℕ). n + w * 2 ^ k) (mul_assoc hi (2 ^ b) (2 ^ k) ∙ ap (λ (n : ℕ). hi * n) (sym g)) in
+    let u : (hi * 2 ^ b + w) * 2 ^ k ≡ hi * 2 ^ s + w * 2 ^ k = add-mul (hi * 2 ^ b) w (2 ^ k) ∙ ap (λ (n : ℕ). n + w * 2 ^ k) (mul_assoc hi (2 ^ b) (2 ^ k) ∙ ap (λ (n : ℕ). hi * n) (sym g)) in
     let t : 2 ^ k * (2 ^ b * 2 ^ a) ≡ 65536 =
     let q : k + (b + a) ≡ 16 = omega arith in
     ap (λ (n : ℕ). 2 ^ k * n) (sym (pow-add 2 b a)) ∙ sym (pow-add 2 k (b + a)) ∙ ap (λ (n : ℕ). 2 ^ n) q in

@@ -4,15 +4,15 @@ use Rattle.arith.specs.Integers.{fitted, sum}
 use Rattle.arith.proofs.Ints.{sum_fits, over}
 use Rattle.arith.proofs.integer.add.Goals as goal
 
-pub overflow-add-value : goal.overflow-add-value
-overflow-add-value c =
-    let f : SFits w32 c.value.result = record { sfits = c.value.type-inv } in
-    let g : SFits w32 c.value-2.result = record { sfits = c.value-2.type-inv } in
+pub overflow_add-value : goal.overflow_add-value
+overflow_add-value c =
+    let f : SFits w32 c.value.result = record { sfits = c.value.type_inv } in
+    let g : SFits w32 c.value-2.result = record { sfits = c.value-2.type_inv } in
     rw (to_z-of_z w32 c.value.result f, to_z-of_z w32 c.value-2.result g) (sum_fits c.value.result c.value-2.result c.value.ensures.small c.value-2.ensures.small)
 
 pub returns : goal.returns
 unfolding sum
 returns c =
     c.fit.ensures
-    ∙ ap fitted (over ◌+ℤ◌ _ _ _ _ c.value.ensures.exact c.value-2.ensures.exact record { sfits = c.value.type-inv } record { sfits = c.value-2.type-inv }
+    ∙ ap fitted (over ◌+ℤ◌ _ _ _ _ c.value.ensures.exact c.value-2.ensures.exact record { sfits = c.value.type_inv } record { sfits = c.value-2.type_inv }
     (sum_fits c.value.result c.value-2.result c.value.ensures.small c.value-2.ensures.small))

@@ -6,10 +6,10 @@ use Rattle.arith.specs.Integers.{fitted, quotient}
 use Rattle.arith.proofs.Ints.{quotient_fits, over, not_zero}
 use Rattle.arith.proofs.integer.div.Goals as goal
 
-pub nonzero-div-value : goal.nonzero-div-value
-nonzero-div-value c =
-    let f : SFits w32 c.value.result = record { sfits = c.value.type-inv } in
-    let g : SFits w32 c.value-2.result = record { sfits = c.value-2.type-inv } in (
+pub nonzero_div-value : goal.nonzero_div-value
+nonzero_div-value c =
+    let f : SFits w32 c.value.result = record { sfits = c.value.type_inv } in
+    let g : SFits w32 c.value-2.result = record { sfits = c.value-2.type_inv } in (
       not_zero c.args.x c.value-2.result c.value-2.ensures.exact c.value-2.ensures.small c.if-x-eq0.false (omega arith),
       rw (to_z-of_z w32 c.value.result f, to_z-of_z w32 c.value-2.result g)
           (quotient_fits c.value.result c.value-2.result c.value.ensures.small c.value-2.ensures.small),
@@ -19,7 +19,7 @@ pub returns : goal.returns
 unfolding quotient
 returns c =
     c.fit.ensures
-    ∙ ap fitted (over quot_z _ _ _ _ c.value.ensures.exact c.value-2.ensures.exact record { sfits = c.value.type-inv } record { sfits = c.value-2.type-inv }
+    ∙ ap fitted (over quot_z _ _ _ _ c.value.ensures.exact c.value-2.ensures.exact record { sfits = c.value.type_inv } record { sfits = c.value-2.type_inv }
     (quotient_fits c.value.result c.value-2.result c.value.ensures.small c.value-2.ensures.small))
     ∙ sym (cond-false (eqb c.args.x 0) _ _ (ne_eqb c.args.x 0 c.if-x-eq0.false))
 

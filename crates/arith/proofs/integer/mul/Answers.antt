@@ -4,15 +4,15 @@ use Rattle.arith.specs.Integers.{fitted, product}
 use Rattle.arith.proofs.Ints.{product_fits, over}
 use Rattle.arith.proofs.integer.mul.Goals as goal
 
-pub overflow-mul-value : goal.overflow-mul-value
-overflow-mul-value c =
-    let f : SFits w32 c.value.result = record { sfits = c.value.type-inv } in
-    let g : SFits w32 c.value-2.result = record { sfits = c.value-2.type-inv } in
+pub overflow_mul-value : goal.overflow_mul-value
+overflow_mul-value c =
+    let f : SFits w32 c.value.result = record { sfits = c.value.type_inv } in
+    let g : SFits w32 c.value-2.result = record { sfits = c.value-2.type_inv } in
     rw (to_z-of_z w32 c.value.result f, to_z-of_z w32 c.value-2.result g) (product_fits c.value.result c.value-2.result c.value.ensures.small c.value-2.ensures.small)
 
 pub returns : goal.returns
 unfolding product
 returns c =
     c.fit.ensures
-    ∙ ap fitted (over ◌*ℤ◌ _ _ _ _ c.value.ensures.exact c.value-2.ensures.exact record { sfits = c.value.type-inv } record { sfits = c.value-2.type-inv }
+    ∙ ap fitted (over ◌*ℤ◌ _ _ _ _ c.value.ensures.exact c.value-2.ensures.exact record { sfits = c.value.type_inv } record { sfits = c.value-2.type_inv }
     (product_fits c.value.result c.value-2.result c.value.ensures.small c.value-2.ensures.small))

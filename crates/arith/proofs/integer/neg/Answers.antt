@@ -4,13 +4,13 @@ use Rattle.arith.specs.Integers.{fitted, negation}
 use Rattle.arith.proofs.Ints.{negated_fits, zero_minus, back}
 use Rattle.arith.proofs.integer.neg.Goals as goal
 
-pub overflow-sub-value : goal.overflow-sub-value
-overflow-sub-value c = rw (back c.value.result record { sfits = c.value.type-inv }) (negated_fits c.value.result c.value.ensures.small)
+pub overflow_sub-value : goal.overflow_sub-value
+overflow_sub-value c = rw (back c.value.result record { sfits = c.value.type_inv }) (negated_fits c.value.result c.value.ensures.small)
 
 pub returns : goal.returns
 unfolding negation
 returns c =
-    let e = back c.value.result record { sfits = c.value.type-inv } in
+    let e = back c.value.result record { sfits = c.value.type_inv } in
     c.fit.ensures
     ∙ ap (λ (z : ℤ). fitted (to_z w32 (of_z w32 (pos 0 -ℤ z)))) e
     ∙ ap fitted (back (pos 0 -ℤ c.value.result) (negated_fits c.value.result c.value.ensures.small) ∙ zero_minus c.value.result ∙ ap neg_ℤ c.value.ensures.exact)

@@ -6,8 +6,8 @@ use Rattle.image.specs.Writing.{judged}
 use Rattle.image.proofs.Bodies.{none, body_more, good_size, bad_size, judged_more, judged_bad, judged_end, measured_bad, measured_good}
 use Rattle.image.proofs.write.measure.Goals as goal
 
-pub overflow-add-bytes : goal.overflow-add-bytes
-overflow-add-bytes c = omega (arith, c.requires, c.loop-i.invariant.0, c.in-Some.ensures.small)
+pub overflow_add-bytes : goal.overflow_add-bytes
+overflow_add-bytes c = omega (arith, c.requires, c.loop-i.invariant.0, c.in-Some.ensures.small)
 
 pub returns-in-None : goal.returns-in-None
 returns-in-None c =

@@ -5,8 +5,8 @@ use Rattle.arith.specs.Fields.{deposited}
 use Rattle.arith.proofs.Rounds.{deposit_fits}
 use Rattle.arith.proofs.field.Field.deposit.Goals as goal
 
-pub overflow-cast-result : goal.overflow-cast-result
-overflow-cast-result c =
+pub overflow_cast-result : goal.overflow_cast-result
+overflow_cast-result c =
     let a = c.args.self.from in
     let b = c.args.self.count in
     let p = and_parts (leb b 15) (leb (a + b) 16) (and_parts (leb 1 b) _ c.args.self.ok).1 in

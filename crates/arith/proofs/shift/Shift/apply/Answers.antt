@@ -5,11 +5,11 @@ use Rattle.arith.specs.Shifts.{shifted}
 use Rattle.arith.proofs.Rounds.{round_fits}
 use Rattle.arith.proofs.shift.Shift.apply.Goals as goal
 
-pub overflow-add-result : goal.overflow-add-result
-overflow-add-result c = omega (arith, round_fits c.args.x c.args.self.count (16 - c.args.self.count) (omega (arith, c.args.self.ok)) (omega arith))
+pub overflow_add-result : goal.overflow_add-result
+overflow_add-result c = omega (arith, round_fits c.args.x c.args.self.count (16 - c.args.self.count) (omega (arith, c.args.self.ok)) (omega arith))
 
-pub overflow-add-result-in-Csr : goal.overflow-add-result-in-Csr
-overflow-add-result-in-Csr c = omega (arith, round_fits c.args.x (16 - c.args.self.count) c.args.self.count (omega (arith, c.args.self.ok)) (omega arith))
+pub overflow_add-result-in-Csr : goal.overflow_add-result-in-Csr
+overflow_add-result-in-Csr c = omega (arith, round_fits c.args.x (16 - c.args.self.count) c.args.self.count (omega (arith, c.args.self.ok)) (omega arith))
 
 pub returns-in-Lsl : goal.returns-in-Lsl
 unfolding shifted

@@ -13,8 +13,8 @@ count-arms-requires c = ?
 pub write-requires : goal.write-requires
 write-requires c = ?
 
-pub overflow-cast-result : goal.overflow-cast-result
-overflow-cast-result c = ?
+pub overflow_cast-result : goal.overflow_cast-result
+overflow_cast-result c = ?
 
 pub returns : goal.returns
 returns c = ?

@@ -13,5 +13,5 @@ returns c =
     let xs = c.args.self.now.cells.now in
     let i = c.args.cell in
     let h : i < length (words_of xs) = omega arith in
-    let e : c.at.result ≡ get_or (words_of xs) i 0 = omega (arith, c.at.ensures, c.at.type-inv, get_or_words_of xs i h) in
+    let e : c.at.result ≡ get_or (words_of xs) i 0 = omega (arith, c.at.ensures, c.at.type_inv, get_or_words_of xs i h) in
     ap Ok e ∙ cond_below i (length (words_of xs)) (Ok (get_or (words_of xs) i 0)) (refuse 36 i) h
