@@ -8,29 +8,29 @@ use Rattle.image.proofs.Whole.{only_images}
 use Rattle.image.proofs.Inverse.{decoded_figures, decoded_entries, decoded_from, figures_ok, figures_told, laid_down}
 use Rattle.image.proofs.read.decode.Goals as goal
 
-pub returns-in-err-figures : goal.returns-in-err-figures
-returns-in-err-figures c =
-    let p = err_from_is_err_and c.from-residual.result c.from-residual.ensures.1 in
-    let d = decoded_figures (length c.args.table.now) c.args.bytes.now (refusal_of c.in-err-figures.field-0.0) c.in-err-figures.ensures in
+pub returns-in_err-figures : goal.returns-in_err-figures
+returns-in_err-figures c =
+    let p = err_from_is_err_and c.from_residual.result c.from_residual.ensures.1 in
+    let d = decoded_figures (length c.args.table.now) c.args.bytes.now (refusal_of c.in_err-figures.field-0.0) c.in_err-figures.ensures in
     rw (p.1, p.2, d) record { answer = refl; after = refl; of = tt }
 
-pub returns-in-err-walk : goal.returns-in-err-walk
-returns-in-err-walk c =
-    let p = err_from_is_err_and c.from-residual-in-err-walk.result c.from-residual-in-err-walk.ensures.1 in
-    let d = decoded_entries (length c.args.table.now) c.args.bytes.now c.in-ok-figures.figures (rest_of c.figures.new.self) (refusal_of c.in-err-walk.field-0.0)
-    c.in-ok-figures.ensures.0 c.in-err-walk.ensures in
+pub returns-in_err-walk : goal.returns-in_err-walk
+returns-in_err-walk c =
+    let p = err_from_is_err_and c.from_residual-in_err-walk.result c.from_residual-in_err-walk.ensures.1 in
+    let d = decoded_entries (length c.args.table.now) c.args.bytes.now c.in_ok-figures.figures (rest_of c.figures.new.self) (refusal_of c.in_err-walk.field-0.0)
+    c.in_ok-figures.ensures.0 c.in_err-walk.ensures in
     rw (p.1, p.2, d) record { answer = refl; after = refl; of = tt }
 
 pub fill-requires : goal.fill-requires
-fill-requires c = (figures_ok (length c.args.bytes.now) (length c.args.table.now) c.args.bytes.now c.in-ok-figures.figures (rest_of c.figures.new.self) c.in-ok-figures.ensures.0).within
+fill-requires c = (figures_ok (length c.args.bytes.now) (length c.args.table.now) c.args.bytes.now c.in_ok-figures.figures (rest_of c.figures.new.self) c.in_ok-figures.ensures.0).within
 
 pub returns : goal.returns
 returns c =
-    let f = c.in-ok-figures.figures in
+    let f = c.in_ok-figures.figures in
     let new = c.fill.new.table in
-    let p = c.in-ok-figures.ensures.0 in
-    let q = c.in-ok-fill.ensures in
-    let e = ap (λ m. entries_at m f.count [] (rest_of c.figures.new.self)) (sym c.in-ok-figures.ensures.1) ∙ q.0 in
+    let p = c.in_ok-figures.ensures.0 in
+    let q = c.in_ok-fill.ensures in
+    let e = ap (λ m. entries_at m f.count [] (rest_of c.figures.new.self)) (sym c.in_ok-figures.ensures.1) ∙ q.0 in
     let d = decoded_from (length c.args.table.now) c.args.bytes.now f (rest_of c.figures.new.self) (take f.count new) p e in
     let o = only_images c.args.bytes.now (λ i. omega (arith, (c.type_inv.bytes i).fits)) (length c.args.table.now) (coded f.cells f.depth (take f.count new)) d in
     rw d record {

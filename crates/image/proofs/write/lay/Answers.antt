@@ -15,13 +15,13 @@ pub put-requires-3 : goal.put-requires-3
 put-requires-3 c =
     omega (arith, c.requires.1, image_length (coded c.args.cells c.args.depth c.args.code.now), c.new-list.ensures.len, ap length c.new-list.ensures.room, c.put.ensures.len, c.put.ensures.size, c.put-2.ensures.len, c.put-2.ensures.size)
 
-pub put-body-requires : goal.put-body-requires
-put-body-requires c =
+pub put_body-requires : goal.put_body-requires
+put_body-requires c =
     omega (arith, c.requires.1, image_length (coded c.args.cells c.args.depth c.args.code.now), c.new-list.ensures.len, ap length c.new-list.ensures.room, c.put.ensures.len, c.put.ensures.size, c.put-2.ensures.len, c.put-2.ensures.size, c.put-3.ensures.len, c.put-3.ensures.size)
 
 pub returns : goal.returns
 unfolding image
 returns c =
-    let a = appended_then _ _ _ _ _ (appended_then _ _ _ _ _ (appended_then _ _ _ _ _ c.put.ensures c.put-2.ensures) c.put-3.ensures) c.put-body.ensures in
-    let q = c.out·1.given.1.1 (sym (a.loan ∙ c.new-list.ensures.lends)) in
-    q ∙ from_nothing c.new-list.result _ c.put-body.new.out c.args.out.now a c.new-list.ensures.held c.new-list.ensures.len c.new-list.ensures.room
+    let a = appended_then _ _ _ _ _ (appended_then _ _ _ _ _ (appended_then _ _ _ _ _ c.put.ensures c.put-2.ensures) c.put-3.ensures) c.put_body.ensures in
+    let q = c.out-1.given.1.1 (sym (a.loan ∙ c.new-list.ensures.lends)) in
+    q ∙ from_nothing c.new-list.result _ c.put_body.new.out c.args.out.now a c.new-list.ensures.held c.new-list.ensures.len c.new-list.ensures.room

@@ -7,8 +7,8 @@ use Rattle.image.proofs.Appends.{appended_then}
 use Rattle.image.proofs.Bodies.{none, body_more, body_front}
 use Rattle.image.proofs.write.put_body.Goals as goal
 
-pub put-entry-requires : goal.put-entry-requires
-put-entry-requires c =
+pub put_entry-requires : goal.put_entry-requires
+put_entry-requires c =
     let code = c.args.code.now in
     let i = c.loop-i.i in
     let m = ap length (body_more code i none c.loop-i-test.true) in
@@ -16,8 +16,8 @@ put-entry-requires c =
 
 pub loop-i-preserved : goal.loop-i-preserved
 loop-i-preserved c =
-    subst (λ (xs : List ℕ). Appended c.args.out.now xs c.put-entry.new.out) (sym (body_more c.args.code.now c.loop-i.i none c.loop-i-test.true))
-    (appended_then _ _ _ _ _ c.loop-i.invariant c.put-entry.ensures)
+    subst (λ (xs : List ℕ). Appended c.args.out.now xs c.put_entry.new.out) (sym (body_more c.args.code.now c.loop-i.i none c.loop-i-test.true))
+    (appended_then _ _ _ _ _ c.loop-i.invariant c.put_entry.ensures)
 
 pub returns : goal.returns
 returns c =

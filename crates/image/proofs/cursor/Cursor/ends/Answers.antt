@@ -4,11 +4,11 @@ use Rattle.image.specs.Cursors.{rest_of}
 use Rattle.image.proofs.Walks.{entries_none, entries_left}
 use Rattle.image.proofs.cursor.Cursor.ends.Goals as goal
 
-pub returns-then-is-empty : goal.returns-then-is-empty
-returns-then-is-empty c o =
-    entries_none c.args.self.now.end o (rest_of c.args.self.now) (eqb-true (length (rest_of c.args.self.now)) 0 (sym c.if-is-empty.ensures))
+pub returns-then-is_empty : goal.returns-then-is_empty
+returns-then-is_empty c o =
+    entries_none c.args.self.now.end o (rest_of c.args.self.now) (eqb-true (length (rest_of c.args.self.now)) 0 (sym c.if-is_empty.ensures))
 
 pub returns : goal.returns
 returns c o =
-    let h : 0 < length (rest_of c.args.self.now) = omega (arith, eqb-false (length (rest_of c.args.self.now)) 0 (sym c.if-is-empty.ensures)) in
+    let h : 0 < length (rest_of c.args.self.now) = omega (arith, eqb-false (length (rest_of c.args.self.now)) 0 (sym c.if-is_empty.ensures)) in
     entries_left c.args.self.now.end c.place.result o (rest_of c.args.self.now) h c.place.ensures

@@ -2,21 +2,21 @@ use Rattle.std.proofs.Common.{rules}
 use Rattle.image.specs.Reading.{entry_at}
 use Rattle.image.proofs.cursor.Cursor.entry.Goals as goal
 
-pub returns-in-err-number : goal.returns-in-err-number
+pub returns-in_err-number : goal.returns-in_err-number
 unfolding entry_at
-returns-in-err-number c = search rules
+returns-in_err-number c = search rules
 
-pub returns-in-err-a : goal.returns-in-err-a
+pub returns-in_err-a-in-Some-eq1 : goal.returns-in_err-a-in-Some-eq1
 unfolding entry_at
-returns-in-err-a c = search rules
+returns-in_err-a-in-Some-eq1 c = search rules
 
-pub returns-in-err-a-2 : goal.returns-in-err-a-2
+pub returns-in_err-a-in-Some : goal.returns-in_err-a-in-Some
 unfolding entry_at
-returns-in-err-a-2 c = search rules
+returns-in_err-a-in-Some c = search rules
 
-pub returns-in-err-b : goal.returns-in-err-b
+pub returns-in_err-b-in-Some : goal.returns-in_err-b-in-Some
 unfolding entry_at
-returns-in-err-b c = search rules
+returns-in_err-b-in-Some c = search rules
 
 pub returns-in-None : goal.returns-in-None
 unfolding entry_at
@@ -26,10 +26,10 @@ pub returns-in-Some-eq0 : goal.returns-in-Some-eq0
 unfolding entry_at
 returns-in-Some-eq0 c = search rules
 
-pub returns-in-ok-a : goal.returns-in-ok-a
+pub returns-in_ok-a-in-Some-eq1 : goal.returns-in_ok-a-in-Some-eq1
 unfolding entry_at
-returns-in-ok-a c = search rules
+returns-in_ok-a-in-Some-eq1 c = search rules
 
-pub returns-in-ok-b : goal.returns-in-ok-b
+pub returns-in_ok-b-in-Some : goal.returns-in_ok-b-in-Some
 unfolding entry_at
-returns-in-ok-b c = search rules
+returns-in_ok-b-in-Some c = search rules

@@ -2,21 +2,21 @@ use Rattle.std.proofs.Common.{rules}
 use Rattle.image.specs.Reading.{figures_at}
 use Rattle.image.proofs.cursor.Cursor.figures.Goals as goal
 
-pub returns-in-err-cells : goal.returns-in-err-cells
+pub returns-in_err-cells : goal.returns-in_err-cells
 unfolding figures_at
-returns-in-err-cells c = search rules
+returns-in_err-cells c = search rules
 
 pub returns-then-cells-gt4096 : goal.returns-then-cells-gt4096
 unfolding figures_at
 returns-then-cells-gt4096 c = search rules
 
-pub returns-in-err-depth : goal.returns-in-err-depth
+pub returns-in_err-depth : goal.returns-in_err-depth
 unfolding figures_at
-returns-in-err-depth c = search rules
+returns-in_err-depth c = search rules
 
-pub returns-in-err-count : goal.returns-in-err-count
+pub returns-in_err-count : goal.returns-in_err-count
 unfolding figures_at
-returns-in-err-count c = search rules
+returns-in_err-count c = search rules
 
 pub returns-then-count-eq0 : goal.returns-then-count-eq0
 unfolding figures_at

@@ -5,18 +5,18 @@ use Rattle.image.specs.Groups.{more}
 use Rattle.image.proofs.Numbers.{zeros, ends_large, ends_last, ends_cut, more_on}
 use Rattle.image.proofs.cursor.Cursor.number.Goals as goal
 
-pub returns-then-zeros-first : goal.returns-then-zeros-first
-returns-then-zeros-first c =
-    zeros c.args.self.now.end c.place-at.result (rest_of c.args.self.now) c.place-at.ensures (sym c.zeros-first.ensures ∙ c.if-zeros-first.true)
+pub returns-then-zeros_first : goal.returns-then-zeros_first
+returns-then-zeros_first c =
+    zeros c.args.self.now.end c.place-at.result (rest_of c.args.self.now) c.place-at.ensures (sym c.zeros_first.ensures ∙ c.if-zeros_first.true)
 
 pub returns-then-n-gt65535 : goal.returns-then-n-gt65535
 returns-then-n-gt65535 c =
-    ends_large c.args.self.now.end c.place-at.result c.loop-b.n (rest_of c.args.self.now) (rest_of c.loop-b.self) c.place-at.ensures (sym c.zeros-first.ensures ∙ c.if-zeros-first.false) c.loop-b.invariant.2
+    ends_large c.args.self.now.end c.place-at.result c.loop-b.n (rest_of c.args.self.now) (rest_of c.loop-b.self) c.place-at.ensures (sym c.zeros_first.ensures ∙ c.if-zeros_first.false) c.loop-b.invariant.2
     c.in-Some.b (rest_of c.byte.new.self) c.in-Some.ensures.0 c.if-n-gt65535.true
 
 pub returns-then-b-lt128 : goal.returns-then-b-lt128
 returns-then-b-lt128 c = (
-  ends_last c.args.self.now.end c.place-at.result c.loop-b.n (rest_of c.args.self.now) (rest_of c.loop-b.self) c.place-at.ensures (sym c.zeros-first.ensures ∙ c.if-zeros-first.false) c.loop-b.invariant.2
+  ends_last c.args.self.now.end c.place-at.result c.loop-b.n (rest_of c.args.self.now) (rest_of c.loop-b.self) c.place-at.ensures (sym c.zeros_first.ensures ∙ c.if-zeros_first.false) c.loop-b.invariant.2
       c.in-Some.b (rest_of c.byte.new.self) c.in-Some.ensures.0 c.if-n-gt65535.false c.if-b-lt128.true,
   c.in-Some.ensures.1 ∙ c.loop-b.invariant.1,
 )
@@ -31,6 +31,6 @@ loop-b-preserved c = (
 
 pub returns : goal.returns
 returns c =
-    ends_cut c.args.self.now.end c.place-at.result c.loop-b.n (rest_of c.args.self.now) (rest_of c.loop-b.self) c.place-at.ensures (sym c.zeros-first.ensures ∙ c.if-zeros-first.false) c.loop-b.invariant.2
-    c.in-default.ensures.0
-    ∙ ap (λ e. refuse 20 e) (sym (c.in-default.ensures.2 ∙ c.loop-b.invariant.1))
+    ends_cut c.args.self.now.end c.place-at.result c.loop-b.n (rest_of c.args.self.now) (rest_of c.loop-b.self) c.place-at.ensures (sym c.zeros_first.ensures ∙ c.if-zeros_first.false) c.loop-b.invariant.2
+    c.in_default.ensures.0
+    ∙ ap (λ e. refuse 20 e) (sym (c.in_default.ensures.2 ∙ c.loop-b.invariant.1))
