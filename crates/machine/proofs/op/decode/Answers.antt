@@ -135,10 +135,10 @@ pub returns-then-number-gt33 : goal.returns-then-number-gt33
 unfolding decoded
 returns-then-number-gt33 c = sym (past ops c.args.number (omega arith))
 
-pub returns-in-default : goal.returns-in-default
+pub returns-in_default : goal.returns-in_default
 unfolding decoded
-returns-in-default c = let e : c.args.number ≡ 16 = omega arith in ap decoded (sym e)
+returns-in_default c = let e : c.args.number ≡ 16 = omega arith in ap decoded (sym e)
 
-pub returns-in-default-number : goal.returns-in-default-number
+pub returns-in_default-number : goal.returns-in_default-number
 unfolding decoded
-returns-in-default-number c = let e : c.args.number ≡ 33 = omega arith in ap decoded (sym e)
+returns-in_default-number c = let e : c.args.number ≡ 33 = omega arith in ap decoded (sym e)

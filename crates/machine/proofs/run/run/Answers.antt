@@ -8,13 +8,13 @@ pub loop-i-init : goal.loop-i-init
 unfolding run
 loop-i-init g c = (refl, omega arith, omega arith, omega arith, refl, g.S.Store.stays _)
 
-pub returns-then-is-some : goal.returns-then-is-some
-returns-then-is-some g c =
+pub returns-then-is_some : goal.returns-then-is_some
+returns-then-is_some g c =
     let s = state c.args.vm c.args.stack.now (g.S.Store.words c.args.store.now) in
     let t = state c.loop-i.after c.loop-i.stack (g.S.Store.words c.loop-i.store) in
     let can : able_for c.args.steps c.args.code.now c.args.depth s ≡ true = search rules in
     record {
-      did = (can, early c.args.code.now c.args.depth c.loop-i.i c.args.steps s t c.loop-i.invariant.0 (omega arith) (λ n. false≢true (ap is_some (sym n) ∙ sym c.if-is-some.ensures)));
+      did = (can, early c.args.code.now c.args.depth c.loop-i.i c.args.steps s t c.loop-i.invariant.0 (omega arith) (λ n. false≢true (ap is_some (sym n) ∙ sym c.if-is_some.ensures)));
       keeps = c.loop-i.invariant.5;
     }
 
