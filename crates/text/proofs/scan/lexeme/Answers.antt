@@ -36,5 +36,5 @@ pub returns-in-Other : goal.returns-in-Other
 returns-in-Other c =
     let p = c.args.place in
     let xs = c.args.s.now in
-    let e = c.symbol-at.ensures ∙ lexeme_by p xs Other c.in-Other.ensures.value in
-    record { value = e; bound = made_wide p xs c.symbol-at.result e }
+    let e = c.symbol_at.ensures ∙ lexeme_by p xs Other c.in-Other.ensures.value in
+    record { value = e; bound = made_wide p xs c.symbol_at.result e }

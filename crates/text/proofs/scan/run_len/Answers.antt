@@ -4,12 +4,12 @@ use Rattle.text.specs.Lexemes.{passes}
 use Rattle.text.proofs.scan.run_len.Goals as goal
 
 pub loop-n-preserved : goal.loop-n-preserved
-loop-n-preserved c = (omega arith, omega (arith, prefix_len-drop_yes (passes c.args.class) c.args.s.now c.loop-n.n 0 (omega arith) (sym c.is-of.ensures ∙ c.if-is-of.true)))
+loop-n-preserved c = (omega arith, omega (arith, prefix_len-drop_yes (passes c.args.class) c.args.s.now c.loop-n.n 0 (omega arith) (sym c.is_of.ensures ∙ c.if-is_of.true)))
 
-pub returns-else-is-of : goal.returns-else-is-of
-returns-else-is-of c =
+pub returns-else-is_of : goal.returns-else-is_of
+returns-else-is_of c =
     record {
-      value = omega (arith, prefix_len-drop_no (passes c.args.class) c.args.s.now c.loop-n.n 0 (omega arith) (sym c.is-of.ensures ∙ c.if-is-of.false));
+      value = omega (arith, prefix_len-drop_no (passes c.args.class) c.args.s.now c.loop-n.n 0 (omega arith) (sym c.is_of.ensures ∙ c.if-is_of.false));
       bound = omega arith;
     }
 
