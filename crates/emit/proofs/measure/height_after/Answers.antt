@@ -7,4 +7,4 @@ pub returns : goal.returns
 returns c =
     let h = c.args.h in
     let e = height_is c.args.i h c.dropped.result c.takes.result c.leaves.result c.dropped.ensures c.takes.ensures c.leaves.ensures.0 in
-    (omega (arith, e, c.saturating-sub-less.ensures, c.saturating-sub-least.ensures), omega (arith, c.leaves.ensures.1, c.saturating-sub-less.ensures, c.saturating-sub-least.ensures))
+    (omega (arith, e, c.saturating_sub-less.ensures, c.saturating_sub-least.ensures), omega (arith, c.leaves.ensures.1, c.saturating_sub-less.ensures, c.saturating_sub-least.ensures))

@@ -10,21 +10,21 @@ pub returns-then-place-limit : goal.returns-then-place-limit
 returns-then-place-limit c =
     let ns = c.args.items.now in
     let i = c.loop-n.n-index in
-    let q = c.size-of-place.ensures.0 c.loop-n.place in
+    let q = c.size_of-place.ensures.0 c.loop-n.place in
     omega (arith, q, c.loop-n.invariant.3, ends_more ns i (item.Plain HALT) c.loop-n-test.true c.loop-n.place, ends_further (drop (i + 1) ns) (next (get_or ns i (item.Plain HALT)) c.loop-n.place))
 
 pub loop-n-preserved : goal.loop-n-preserved
 loop-n-preserved c =
     let ns = c.args.items.now in
     let i = c.loop-n.n-index in
-    let q = c.size-of-place.ensures.0 c.loop-n.place in
-    let z = c.size-of-place.ensures.0 0 in
-    let m = c.stack-after-height.result in (
+    let q = c.size_of-place.ensures.0 c.loop-n.place in
+    let z = c.size_of-place.ensures.0 0 in
+    let m = c.stack_after-height.result in (
       omega arith,
-      omega (arith, z, c.stack-after-height.ensures.1, c.loop-n.invariant.1),
+      omega (arith, z, c.stack_after-height.ensures.1, c.loop-n.invariant.1),
       omega (arith, z, c.max-deep.ensures, c.loop-n.invariant.1, c.loop-n.invariant.2),
       ap (ends (drop (i + 1) ns)) (sym q) ∙ sym (ends_more ns i (item.Plain HALT) c.loop-n-test.true c.loop-n.place) ∙ c.loop-n.invariant.3,
-      omega (arith, c.max-deep.ensures, deepest_more ns i (item.Plain HALT) c.loop-n-test.true c.loop-n.height m c.stack-after-height.ensures.0, c.loop-n.invariant.4),
+      omega (arith, c.max-deep.ensures, deepest_more ns i (item.Plain HALT) c.loop-n-test.true c.loop-n.height m c.stack_after-height.ensures.0, c.loop-n.invariant.4),
     )
 
 pub returns : goal.returns

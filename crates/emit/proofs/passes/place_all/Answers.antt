@@ -6,8 +6,8 @@ use Rattle.emit.specs.Items.{placed, ends}
 use Rattle.emit.proofs.Loops.{places_more, places_all, fits_more, ends_more}
 use Rattle.emit.proofs.passes.place_all.Goals as goal
 
-pub place-after-after-requires : goal.place-after-after-requires
-place-after-after-requires c = fits_more c.args.items.now c.loop-n.n-index (item.Plain HALT) c.loop-n-test.true c.loop-n.place c.loop-n.invariant.1 c.requires.fits
+pub place_after-after-requires : goal.place_after-after-requires
+place_after-after-requires c = fits_more c.args.items.now c.loop-n.n-index (item.Plain HALT) c.loop-n-test.true c.loop-n.place c.loop-n.invariant.1 c.requires.fits
 
 pub loop-n-preserved : goal.loop-n-preserved
 loop-n-preserved c =
@@ -17,7 +17,7 @@ loop-n-preserved c =
     let p = c.loop-n.place in
     let ss = tops c.loop-n.starts in
     let h = c.loop-n-test.true in
-    let q = c.place-after-after.ensures in
+    let q = c.place_after-after.ensures in
     let pushed : vec_items c.put.new.stack ≡ vec_items c.loop-n.out ++ placed n p ss ∷ [] =
     c.put.ensures.items ∙ rw (q, c.peek.ensures) in (
       rw (q, c.follow.ensures.tops) (places_more ns i (item.Plain HALT) h (vec_items c.loop-n.out) _ _ p ss pushed c.loop-n.invariant.0),

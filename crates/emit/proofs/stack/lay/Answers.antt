@@ -26,8 +26,8 @@ pub returns : goal.returns
 returns g c =
     let d = c.loop-x.list in
     let n = vec_len c.args.stack.now in
-    let q = c.table·1.given.1.1 (sym (c.loop-x.invariant.4 ∙ c.new-list.ensures.lends)) in
+    let q = c.table-1.given.1.1 (sym (c.loop-x.invariant.4 ∙ c.new-list.ensures.lends)) in
     rw q record {
-      laid = laid (room d) c.args.table.now _ d.len n c.loop-x.stack c.loop-x.invariant.0 c.loop-x.invariant.1 (c.loop-x.invariant.2 ∙ ap (drop n) c.new-list.ensures.room) c.in-default.ensures.cases.0;
+      laid = laid (room d) c.args.table.now _ d.len n c.loop-x.stack c.loop-x.invariant.0 c.loop-x.invariant.1 (c.loop-x.invariant.2 ∙ ap (drop n) c.new-list.ensures.room) c.in_default.ensures.cases.0;
       cap = search rules;
     }

@@ -10,8 +10,8 @@ pub resolve-requires : goal.resolve-requires
 resolve-requires c =
     let ns = c.args.items.now in
     let m = c.in-Some.ensures in
-    let p : vec_items c.place-all.new.out ≡ places ns 0 [] = c.place-all.ensures.placed ∙ ap (λ l. l ++ places ns 0 []) c.clear.ensures.none in
-    let b = back_code ns (vec_items c.place-all.new.out) p in
+    let p : vec_items c.place_all.new.out ≡ places ns 0 [] = c.place_all.ensures.placed ∙ ap (λ l. l ++ places ns 0 []) c.clear.ensures.none in
+    let b = back_code ns (vec_items c.place_all.new.out) p in
     let h : ends ns 0 < 65535 = omega (arith, m.0.count, m.1, c.min-limit.ensures) in
     record {
       low = subst Low (sym p) (low_places ns 0 [] h);
@@ -26,16 +26,16 @@ pub lay-requires : goal.lay-requires
 lay-requires c =
     let ns = c.args.items.now in
     let m = c.in-Some.ensures in
-    let p : vec_items c.place-all.new.out ≡ places ns 0 [] = c.place-all.ensures.placed ∙ ap (λ l. l ++ places ns 0 []) c.clear.ensures.none in
-    let b = back_code ns (vec_items c.place-all.new.out) p in
+    let p : vec_items c.place_all.new.out ≡ places ns 0 [] = c.place_all.ensures.placed ∙ ap (λ l. l ++ places ns 0 []) c.clear.ensures.none in
+    let b = back_code ns (vec_items c.place_all.new.out) p in
     omega (arith, made_long c.resolve.new.code ns (c.resolve.ensures.code ∙ b), m.0.count, m.1, c.min-limit.ensures)
 
 pub returns : goal.returns
 returns c =
     let ns = c.args.items.now in
     let m = c.in-Some.ensures in
-    let p : vec_items c.place-all.new.out ≡ places ns 0 [] = c.place-all.ensures.placed ∙ ap (λ l. l ++ places ns 0 []) c.clear.ensures.none in
-    let b = back_code ns (vec_items c.place-all.new.out) p in
+    let p : vec_items c.place_all.new.out ≡ places ns 0 [] = c.place_all.ensures.placed ∙ ap (λ l. l ++ places ns 0 []) c.clear.ensures.none in
+    let b = back_code ns (vec_items c.place_all.new.out) p in
     let e : tops c.resolve.new.code ≡ emitted ns = c.resolve.ensures.code ∙ b in
     let l : vec_len c.resolve.new.code ≡ c.in-Some.figures.count = made_long c.resolve.new.code ns e ∙ sym m.0.count in
     (omega arith, m.0, omega (arith, m.1, c.min-limit.ensures), c.lay.ensures.laid ∙ rw (e, l))
