@@ -19,11 +19,11 @@ decreases-conditional l = 16 * l.levels + 8
 abbrev pub decreases-choice : goal.decreases-choice
 decreases-choice l = 16 * l.levels + 8
 
-abbrev pub decreases-repeat-while : goal.decreases-repeat-while
-decreases-repeat-while l = 16 * l.levels + 8
+abbrev pub decreases-repeat_while : goal.decreases-repeat_while
+decreases-repeat_while l = 16 * l.levels + 8
 
-abbrev pub decreases-repeat-until : goal.decreases-repeat-until
-decreases-repeat-until l = 16 * l.levels + 8
+abbrev pub decreases-repeat_until : goal.decreases-repeat_until
+decreases-repeat_until l = 16 * l.levels + 8
 
 abbrev pub decreases-counted : goal.decreases-counted
 decreases-counted l = 16 * l.levels + 8
