@@ -2,7 +2,7 @@ use Rattle.std.proofs.Common.{◌+◌, ◌*◌, [], ◌∷◌}
 use Rattle.syntax.specs.Machine.{block, arms}
 use Rattle.syntax.specs.Readers.{weight}
 use Rattle.syntax.proofs.Sofar.{Sofar}
-use Rattle.syntax.proofs.reader.Reader.+arms_begun_block_choice_conditional_counted_inner_otherwise_repeat_until_repeat_while_statement_stepped_turns.Given as goal
+use Rattle.syntax.proofs.reader.Reader.+statements.Given as goal
 
 abbrev pub decreases-statement : goal.decreases-statement
 decreases-statement l = 16 * l.levels + 1
