@@ -14,7 +14,7 @@ use text::token::{Keyword, Symbol};
 
 impl Reader<'_, '_> {
     // Operands of what is stronger than `s`, joined by operators of `s` from the left.
-    #[cycle(chain_compare_factor_first_joined_lead_named_operand_paren_primary_relation)]
+    #[cycle(expressions)]
     pub(crate) fn chain(&mut self, s: Strength, levels: u8) -> Result<(), GrammarFault>
         requires { Ready 0 self.old }
         ensures { Done 0 1 (wants s levels) self.old self.new result }
@@ -25,7 +25,7 @@ impl Reader<'_, '_> {
     }
 
     // An operator of strength `s` and the operand right of it, if there is one.
-    #[cycle(chain_compare_factor_first_joined_lead_named_operand_paren_primary_relation)]
+    #[cycle(expressions)]
     fn joined(&mut self, s: Strength, levels: u8) -> Result<bool, GrammarFault>
         requires { Ready 0 self.old }
         ensures { AgainDone (more s levels) self.old self.new result }
@@ -41,7 +41,7 @@ impl Reader<'_, '_> {
     }
 
     // The leftmost operand of operators of strength `s`.
-    #[cycle(chain_compare_factor_first_joined_lead_named_operand_paren_primary_relation)]
+    #[cycle(expressions)]
     fn first(&mut self, s: Strength, levels: u8) -> Result<(), GrammarFault>
         requires { Ready 0 self.old }
         ensures { FirstDone s levels self.old self.new result }
@@ -57,7 +57,7 @@ impl Reader<'_, '_> {
     }
 
     // The operand right of an operator of strength `s`.
-    #[cycle(chain_compare_factor_first_joined_lead_named_operand_paren_primary_relation)]
+    #[cycle(expressions)]
     fn operand(&mut self, s: Strength, levels: u8) -> Result<(), GrammarFault>
         requires { Ready 0 self.old }
         ensures { Done 0 1 (right s levels) self.old self.new result }
@@ -73,7 +73,7 @@ impl Reader<'_, '_> {
     }
 
     // LNOT and what it applies to, or a sum and perhaps another that it is compared with.
-    #[cycle(chain_compare_factor_first_joined_lead_named_operand_paren_primary_relation)]
+    #[cycle(expressions)]
     fn relation(&mut self, levels: u8) -> Result<(), GrammarFault>
         requires { Ready 0 self.old }
         ensures { Done 0 1 (a_relation levels ∷ []) self.old self.new result }
@@ -93,7 +93,7 @@ impl Reader<'_, '_> {
     }
 
     // Perhaps a relation's operator, and the sum right of it.
-    #[cycle(chain_compare_factor_first_joined_lead_named_operand_paren_primary_relation)]
+    #[cycle(expressions)]
     fn compare(&mut self, levels: u8) -> Result<(), GrammarFault>
         requires { Ready 0 self.old }
         ensures { Done 0 0 (a_compare levels ∷ []) self.old self.new result }
@@ -108,7 +108,7 @@ impl Reader<'_, '_> {
     }
 
     // The first term of a sum, perhaps with `-` before the whole of it.
-    #[cycle(chain_compare_factor_first_joined_lead_named_operand_paren_primary_relation)]
+    #[cycle(expressions)]
     fn lead(&mut self, levels: u8) -> Result<(), GrammarFault>
         requires { Ready 0 self.old }
         ensures { Done 0 1 (a_lead levels ∷ []) self.old self.new result }
@@ -124,7 +124,7 @@ impl Reader<'_, '_> {
     }
 
     // primary {field or & shift}
-    #[cycle(chain_compare_factor_first_joined_lead_named_operand_paren_primary_relation)]
+    #[cycle(expressions)]
     fn factor(&mut self, levels: u8) -> Result<(), GrammarFault>
         requires { Ready 0 self.old }
         ensures { Done 0 1 (a_primary levels ∷ fields ∷ []) self.old self.new result }
@@ -133,7 +133,7 @@ impl Reader<'_, '_> {
         self.fields()
     }
 
-    #[cycle(chain_compare_factor_first_joined_lead_named_operand_paren_primary_relation)]
+    #[cycle(expressions)]
     fn primary(&mut self, levels: u8) -> Result<(), GrammarFault>
         requires { Ready 0 self.old }
         ensures { Done 0 1 (a_primary levels ∷ []) self.old self.new result }
@@ -158,7 +158,7 @@ impl Reader<'_, '_> {
     }
 
     // What may follow a name: its subscript.
-    #[cycle(chain_compare_factor_first_joined_lead_named_operand_paren_primary_relation)]
+    #[cycle(expressions)]
     fn named(&mut self, n: Name, place: usize, levels: u8) -> Result<(), GrammarFault>
         requires { Ready 2 self.old }
         ensures { Done 2 1 (a_named (name_of n) place levels ∷ []) self.old self.new result }
@@ -174,7 +174,7 @@ impl Reader<'_, '_> {
     }
 
     // An expression in parentheses, which are a level.
-    #[cycle(chain_compare_factor_first_joined_lead_named_operand_paren_primary_relation)]
+    #[cycle(expressions)]
     pub(crate) fn paren(&mut self, levels: u8) -> Result<(), GrammarFault>
         requires { Ready 0 self.old }
         ensures { Done 0 2 (a_paren levels ∷ []) self.old self.new result }

@@ -15,7 +15,7 @@ use text::token::{Keyword, Symbol};
 
 impl Reader<'_, '_> {
     // A statement, perhaps an empty one.
-    #[cycle(arms_begun_block_choice_conditional_counted_inner_otherwise_repeat_until_repeat_while_statement_stepped_turns)]
+    #[cycle(statements)]
     fn statement(&mut self, levels: u8) -> Result<(), GrammarFault>
         requires { Ready 0 self.old }
         ensures { StatementDone levels self.old self.new result }
@@ -24,7 +24,7 @@ impl Reader<'_, '_> {
     }
 
     // A statement by its first token.
-    #[cycle(arms_begun_block_choice_conditional_counted_inner_otherwise_repeat_until_repeat_while_statement_stepped_turns)]
+    #[cycle(statements)]
     fn begun(&mut self, levels: u8) -> Result<(), GrammarFault>
         requires { Ready 0 self.old }
         ensures { Done 0 0 (stmt levels ∷ []) self.old self.new result }
@@ -45,7 +45,7 @@ impl Reader<'_, '_> {
     }
 
     // What follows the reserved word at `place`, which has opened a level.
-    #[cycle(arms_begun_block_choice_conditional_counted_inner_otherwise_repeat_until_repeat_while_statement_stepped_turns)]
+    #[cycle(statements)]
     fn inner(&mut self, opening: Opening, place: usize, levels: u8) -> Result<(), GrammarFault>
         requires { Ready 2 self.old }
         ensures { Done 2 0 (within opening place levels) self.old self.new result }
@@ -61,7 +61,7 @@ impl Reader<'_, '_> {
     }
 
     // statement {; statement} END
-    #[cycle(arms_begun_block_choice_conditional_counted_inner_otherwise_repeat_until_repeat_while_statement_stepped_turns)]
+    #[cycle(statements)]
     pub(crate) fn block(&mut self, levels: u8) -> Result<(), GrammarFault>
         requires { Ready 0 self.old }
         ensures { Done 0 0 (stmt levels ∷ a_block levels ∷ []) self.old self.new result }
@@ -75,7 +75,7 @@ impl Reader<'_, '_> {
     }
 
     // After IF.
-    #[cycle(arms_begun_block_choice_conditional_counted_inner_otherwise_repeat_until_repeat_while_statement_stepped_turns)]
+    #[cycle(statements)]
     fn conditional(&mut self, levels: u8) -> Result<(), GrammarFault>
         requires { Ready 2 self.old }
         ensures { Done 2 0 (within Conditional 0 levels) self.old self.new result }
@@ -89,7 +89,7 @@ impl Reader<'_, '_> {
     }
 
     // Perhaps ELSE: it belongs to the nearest open THEN.
-    #[cycle(arms_begun_block_choice_conditional_counted_inner_otherwise_repeat_until_repeat_while_statement_stepped_turns)]
+    #[cycle(statements)]
     fn otherwise(&mut self, levels: u8) -> Result<(), GrammarFault>
         requires { Ready 1 self.old }
         ensures { Done 1 0 (an_else levels ∷ []) self.old self.new result }
@@ -106,7 +106,7 @@ impl Reader<'_, '_> {
     }
 
     // After CASE, which stands at `place`.
-    #[cycle(arms_begun_block_choice_conditional_counted_inner_otherwise_repeat_until_repeat_while_statement_stepped_turns)]
+    #[cycle(statements)]
     fn choice(&mut self, place: usize, levels: u8) -> Result<(), GrammarFault>
         requires { Ready 2 self.old }
         ensures { Done 2 0 (within Choice place levels) self.old self.new result }
@@ -120,7 +120,7 @@ impl Reader<'_, '_> {
     }
 
     // The statements of a CASE, up to its END.
-    #[cycle(arms_begun_block_choice_conditional_counted_inner_otherwise_repeat_until_repeat_while_statement_stepped_turns)]
+    #[cycle(statements)]
     fn arms(&mut self, levels: u8) -> Result<(), GrammarFault>
         requires { Ready 0 self.old }
         ensures { Done 0 0 (stmt levels ∷ some_arms levels ∷ []) self.old self.new result }
@@ -139,7 +139,7 @@ impl Reader<'_, '_> {
     }
 
     // After WHILE.
-    #[cycle(arms_begun_block_choice_conditional_counted_inner_otherwise_repeat_until_repeat_while_statement_stepped_turns)]
+    #[cycle(statements)]
     fn repeat_while(&mut self, levels: u8) -> Result<(), GrammarFault>
         requires { Ready 2 self.old }
         ensures { Done 2 0 (within Ahead 0 levels) self.old self.new result }
@@ -154,7 +154,7 @@ impl Reader<'_, '_> {
     }
 
     // After the DO that begins a statement.
-    #[cycle(arms_begun_block_choice_conditional_counted_inner_otherwise_repeat_until_repeat_while_statement_stepped_turns)]
+    #[cycle(statements)]
     fn repeat_until(&mut self, levels: u8) -> Result<(), GrammarFault>
         requires { Ready 2 self.old }
         ensures { Done 2 0 (within Behind 0 levels) self.old self.new result }
@@ -169,7 +169,7 @@ impl Reader<'_, '_> {
     }
 
     // After FOR, which stands at `place`.
-    #[cycle(arms_begun_block_choice_conditional_counted_inner_otherwise_repeat_until_repeat_while_statement_stepped_turns)]
+    #[cycle(statements)]
     fn counted(&mut self, place: usize, levels: u8) -> Result<(), GrammarFault>
         requires { Ready 2 self.old }
         ensures { Done 2 0 (variable place levels ∷ []) self.old self.new result }
@@ -182,7 +182,7 @@ impl Reader<'_, '_> {
     }
 
     // STEP and its value, or 1; then UNTIL.
-    #[cycle(arms_begun_block_choice_conditional_counted_inner_otherwise_repeat_until_repeat_while_statement_stepped_turns)]
+    #[cycle(statements)]
     fn stepped(&mut self, n: Name, at: usize, place: usize, levels: u8) -> Result<(), GrammarFault>
         requires { Ready 0 self.old }
         ensures { Done 0 0 (a_step (name_of n) at place levels ∷ []) self.old self.new result }
@@ -200,7 +200,7 @@ impl Reader<'_, '_> {
     }
 
     // The limit of a FOR, DO and its statement.
-    #[cycle(arms_begun_block_choice_conditional_counted_inner_otherwise_repeat_until_repeat_while_statement_stepped_turns)]
+    #[cycle(statements)]
     fn turns(&mut self, n: Name, at: usize, place: usize, levels: u8) -> Result<(), GrammarFault>
         requires { Ready 0 self.old }
         ensures { Done 0 0 (the_turns (name_of n) at place levels ∷ []) self.old self.new result }

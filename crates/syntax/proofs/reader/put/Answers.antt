@@ -4,7 +4,7 @@ use Rattle.syntax.proofs.reader.put.Goals as goal
 pub returns : goal.returns
 returns c =
     record {
-      items = written_push _ _ _ c.push-reserved.ensures.items;
-      len = c.push-reserved.ensures.len;
-      cap = c.push-reserved.ensures.capacity;
+      items = written_push _ _ _ c.push_reserved.ensures.items;
+      len = c.push_reserved.ensures.len;
+      cap = c.push_reserved.ensures.capacity;
     }

@@ -5,17 +5,17 @@ use Rattle.syntax.proofs.workspace.Workspace.read.Goals as goal
 
 pub whole-requires : goal.whole-requires
 whole-requires c =
-    let h : length c.args.source.now ≤ 32768 = short_source c.args.source.now _ c.in-ok-check.ensures in
+    let h : length c.args.source.now ≤ 32768 = short_source c.args.source.now _ c.in_ok-check.ensures in
     search rules
 
-pub returns-in-err-check : goal.returns-in-err-check
-returns-in-err-check c =
-    let p = err_from_is_err_and c.from-residual.result c.from-residual.ensures.1 in
-    rw (p.1, p.2) (read_text c.args.source.now _ c.in-err-check.ensures, c.clear.ensures.items)
+pub returns-in_err-check : goal.returns-in_err-check
+returns-in_err-check c =
+    let p = err_from_is_err_and c.from_residual.result c.from_residual.ensures.1 in
+    rw (p.1, p.2) (read_text c.args.source.now _ c.in_err-check.ensures, c.clear.ensures.items)
 
 pub returns-in-Ok : goal.returns-in-Ok
-returns-in-Ok c = read_whole c.args.source.now _ _ c.in-ok-check.ensures c.clear.ensures.items c.in-Ok.ensures.exact
+returns-in-Ok c = read_whole c.args.source.now _ _ c.in_ok-check.ensures c.clear.ensures.items c.in-Ok.ensures.exact
 
 pub returns-in-Err : goal.returns-in-Err
 returns-in-Err c =
-    (read_whole c.args.source.now _ _ c.in-ok-check.ensures c.clear.ensures.items c.in-Err.ensures.exact, c.clear-in-Err.ensures.items)
+    (read_whole c.args.source.now _ _ c.in_ok-check.ensures c.clear.ensures.items c.in-Err.ensures.exact, c.clear-in-Err.ensures.items)

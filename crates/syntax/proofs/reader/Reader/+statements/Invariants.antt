@@ -2,7 +2,7 @@ use Rattle.std.proofs.Common.{◌+◌, ◌*◌, [], ◌∷◌}
 use Rattle.syntax.specs.Machine.{block, arms}
 use Rattle.syntax.specs.Readers.{weight}
 use Rattle.syntax.proofs.Sofar.{Sofar}
-use Rattle.syntax.proofs.reader.Reader.+arms_begun_block_choice_conditional_counted_inner_otherwise_repeat_until_repeat_while_statement_stepped_turns.Given as goal
+use Rattle.syntax.proofs.reader.Reader.+statements.Given as goal
 
 abbrev pub decreases-statement : goal.decreases-statement
 decreases-statement l = 16 * l.levels + 1
@@ -19,11 +19,11 @@ decreases-conditional l = 16 * l.levels + 8
 abbrev pub decreases-choice : goal.decreases-choice
 decreases-choice l = 16 * l.levels + 8
 
-abbrev pub decreases-repeat-while : goal.decreases-repeat-while
-decreases-repeat-while l = 16 * l.levels + 8
+abbrev pub decreases-repeat_while : goal.decreases-repeat_while
+decreases-repeat_while l = 16 * l.levels + 8
 
-abbrev pub decreases-repeat-until : goal.decreases-repeat-until
-decreases-repeat-until l = 16 * l.levels + 8
+abbrev pub decreases-repeat_until : goal.decreases-repeat_until
+decreases-repeat_until l = 16 * l.levels + 8
 
 abbrev pub decreases-counted : goal.decreases-counted
 decreases-counted l = 16 * l.levels + 8

@@ -3,7 +3,7 @@ use Rattle.syntax.specs.Machine.{more}
 use Rattle.syntax.specs.Readers.{weight}
 use Rattle.syntax.proofs.Sofar.{Sofar}
 use Rattle.syntax.proofs.Ranks.{depth}
-use Rattle.syntax.proofs.reader.Reader.+chain_compare_factor_first_joined_lead_named_operand_paren_primary_relation.Given as goal
+use Rattle.syntax.proofs.reader.Reader.+expressions.Given as goal
 
 abbrev pub decreases-chain : goal.decreases-chain
 decreases-chain l = 48 * l.levels + depth l.s
