@@ -109,7 +109,7 @@ fn nibble(b: u8) -> Result<u8, Problem> {
 // Two digits a byte, `-` for none; the bytes take the place of those in `out`.
 pub fn hex(text: &[u8], out: &mut Vec<u8>) -> Result<(), Problem> {
     out.clear();
-    if text == b"-" {
+    if text == b"-".as_slice() {
         return Ok(());
     }
     if text.len() % 2 != 0 {
@@ -146,7 +146,7 @@ fn instr(text: &[u8]) -> Result<Instr, Problem> {
 // Records joined by `;`, `-` for none; they take the place of those in `out`.
 pub fn instrs(text: &[u8], out: &mut Vec<Instr>) -> Result<(), Problem> {
     out.clear();
-    if text == b"-" {
+    if text == b"-".as_slice() {
         return Ok(());
     }
     let mut rest = Some(text);
