@@ -1,7 +1,6 @@
 -- What it tells that a half was chosen.
-use Rattle.std.proofs.Common.{◌≡◌, ℕ, ◌-◌, ◌<◌, ◌≤◌, cond, ltb, arith}
+use Rattle.std.proofs.Common.{◌≡◌, ℕ, ◌-◌, ◌<◌, ◌≤◌, ltb, arith}
 use Rattle.std.proofs.lemmas.Bool.{cond_both, ltb-true, ltb-false}
-use Rattle.words.specs.declared.store.joined.Half.{Half}
 use Rattle.words.specs.declared.store.joined.Half.TheVariants.{First, Second}
 use Rattle.words.specs.Halves.{half_of}
 

@@ -1,5 +1,5 @@
 -- What a store answers, and the words that memory stands for.
-use Rattle.std.specs.Prelude.{ℕ, ◌+◌, ◌*◌, ◌%◌, cond, List, [], ◌∷◌, ◌++◌, map, length, take, Ok, Err, Result, nat_lt, slice_index}
+use Rattle.std.specs.Prelude.{ℕ, ◌+◌, ◌*◌, ◌%◌, cond, List, [], ◌∷◌, ◌++◌, map, length, take, Ok, Result, nat_lt, slice_index}
 use Rattle.words.specs.Refusals.{refuse}
 use Rattle.words.specs.declared.refusal.Refusal.{Refusal}
 use Rattle.words.specs.declared.store.StoreFault.{StoreFault}

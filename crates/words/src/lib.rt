@@ -1,4 +1,6 @@
 // Words, and what every layer shares: refusals, instruction records, the bounded list and the stores.
+#![tactic(auto)]
+
 pub mod instr;
 pub mod list;
 pub mod refusal;

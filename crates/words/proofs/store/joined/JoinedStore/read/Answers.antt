@@ -1,4 +1,4 @@
-use Rattle.std.proofs.Common.{◌≡◌, ◌-◌, ◌<◌, length, get_or, ap, ◌∙◌, arith}
+use Rattle.std.proofs.Common.{◌-◌, ◌<◌, length, get_or, ap, ◌∙◌, arith}
 use Rattle.words.specs.Cells.{length_joined_of, cell_like, get_or_first, get_or_second}
 use Rattle.words.specs.Stores.{read_of, joined_of}
 use Rattle.words.proofs.Chosen.{in_first, in_second}

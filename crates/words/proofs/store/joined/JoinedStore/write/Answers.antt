@@ -1,4 +1,4 @@
-use Rattle.std.proofs.Common.{◌≡◌, ◌-◌, ◌<◌, length, set, refl, ap, ◌∙◌, arith, rules}
+use Rattle.std.proofs.Common.{◌-◌, ◌<◌, length, set, refl, ap, ◌∙◌, arith, rules}
 use Rattle.std.proofs.lemmas.List.{set_past}
 use Rattle.words.specs.Cells.{length_joined_of, cell_like, set_first, set_second}
 use Rattle.words.specs.Stores.{write_of, joined_of}
