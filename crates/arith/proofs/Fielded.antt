@@ -1,5 +1,5 @@
 -- Fields of a word.
-use Rattle.std.proofs.Common.{◌≡◌, ℕ, zero, suc, ◌+◌, ◌-◌, ◌*◌, ◌/◌, ◌%◌, ◌^◌, ◌<◌, ◌≤◌, Bool, true, false, cond, leb, ◌⊎◌, sym, refl, ap, ◌∙◌, inl, inr, ⊎_elim, mul_assoc, add-mul, arith}
+use Rattle.std.proofs.Common.{◌≡◌, ℕ, ◌+◌, ◌-◌, ◌*◌, ◌/◌, ◌%◌, ◌^◌, ◌<◌, ◌≤◌, true, leb, sym, ap, ◌∙◌, mul_assoc, add-mul, arith}
 use native.Mathlib.Nat.{mod-mod}
 use Rattle.std.proofs.lemmas.Nat.{pow_pos, pow-add, mod_below, shr_high, mod_low, shr-shr}
 use Rattle.std.proofs.lemmas.Bool.{and_parts, leb-true}

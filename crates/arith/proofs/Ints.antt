@@ -1,12 +1,10 @@
 -- INTEGERs in 32 bits.
-use Rattle.std.proofs.Common.{◌≡◌, ℕ, zero, suc, ◌+◌, ◌-◌, ◌*◌, ◌/◌, ◌%◌, ◌<◌, ◌≤◌, true, false, cond, ltb, ℤ, pos, negsuc, ◌+ℤ◌, ◌-ℤ◌, ◌*ℤ◌, neg_ℤ, nat_abs, Ok, Err, Result, sym, refl, ap, ◌∙◌, div-le_self, arith, w32, SFits, to_z, of_z}
-use lib.IntN.{sub_ℕ}
-use lib.Signed.{mag, mag_rem, lt_z, quot_z, rem_z}
+use Rattle.std.proofs.Common.{◌≡◌, ℕ, suc, ◌-◌, ◌*◌, ◌/◌, ◌<◌, ◌≤◌, true, false, ℤ, pos, negsuc, ◌+ℤ◌, ◌-ℤ◌, ◌*ℤ◌, neg_ℤ, nat_abs, Ok, Err, ap, div-le_self, arith, w32, SFits, to_z, of_z}
+use lib.Signed.{mag_rem, lt_z, quot_z, rem_z}
 use Rattle.std.proofs.lemmas.Int.{ints, to_z-of_z}
 use Rattle.std.proofs.lemmas.Bool.{lt-ltb, le-ltb, ltb-true, ltb-false, true≢false, false≢true}
 use Rattle.std.proofs.lemmas.Bool.Decides.{nat_tests}
 use Rattle.std.proofs.lemmas.Nat.{mul-le}
-use Rattle.arith.specs.declared.stop.Stop.{Stop}
 use Rattle.arith.specs.declared.stop.Stop.TheVariants.{Overflow}
 use Rattle.arith.specs.Integers.{int, fitted, Small}
 

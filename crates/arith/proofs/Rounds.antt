@@ -1,6 +1,6 @@
 -- Sixteen bits cut in two.
-use Rattle.std.proofs.Common.{◌≡◌, ℕ, zero, suc, ◌+◌, ◌-◌, ◌*◌, ◌/◌, ◌%◌, ◌^◌, ◌<◌, ◌≤◌, sym, refl, ap, ◌∙◌, mul_assoc, mul_comm, add-mul, arith}
-use Rattle.std.proofs.lemmas.Nat.{pow-add, pow_pos, shr_split, shr_below, mod_below, mul-add-lt, mod-mul-add, one_shl}
+use Rattle.std.proofs.Common.{◌≡◌, ℕ, ◌+◌, ◌-◌, ◌*◌, ◌/◌, ◌%◌, ◌^◌, ◌<◌, ◌≤◌, sym, ap, ◌∙◌, mul_assoc, mul_comm, add-mul, arith}
+use Rattle.std.proofs.lemmas.Nat.{pow-add, pow_pos, shr_split, shr_below, mod_below, mul-add-lt, mod-mul-add}
 
 pub whole : (b k : ℕ) → b + k ≡ 16 → 2 ^ k * 2 ^ b ≡ 65536
 whole b k e =

@@ -1,9 +1,8 @@
 -- Shifts of a word, bit by bit.
-use Rattle.std.proofs.Common.{◌≡◌, ℕ, zero, suc, ◌+◌, ◌-◌, ◌*◌, ◌/◌, ◌%◌, ◌^◌, ◌<◌, ◌≤◌, Bool, true, false, cond, ltb, ◌⊎◌, sym, refl, ap, ◌∙◌, inl, inr, ⊎_elim, mod-eq_of_lt, mul_assoc, arith}
+use Rattle.std.proofs.Common.{◌≡◌, ℕ, ◌+◌, ◌-◌, ◌*◌, ◌/◌, ◌%◌, ◌^◌, ◌<◌, ◌≤◌, sym, ap, ◌∙◌, ⊎_elim, mod-eq_of_lt, mul_assoc, arith}
 use native.Mathlib.Nat.{zero-div, mod-mod}
-use Rattle.std.proofs.lemmas.Nat.{pow_pos, pow-add, mod_below, shl-shr, shr_high, mod_low, shr-shr, shr_below, shr_split, shr_le}
+use Rattle.std.proofs.lemmas.Nat.{pow-add, shl-shr, shr_high, mod_low, shr-shr, shr_below, shr_split, shr_le}
 use Rattle.std.proofs.lemmas.Bool.{lt-ltb, le-ltb, cases_lt}
-use Rattle.arith.specs.declared.shift.Kind.{Kind}
 use Rattle.arith.specs.declared.shift.Kind.TheVariants.{Lsl, Lsr, Asr, Csl, Csr}
 use Rattle.arith.specs.Bits.{bit}
 use Rattle.arith.specs.Shifts.{shifted}

@@ -1,18 +1,16 @@
 -- The laws of the operations, proved.
-use Rattle.std.proofs.Common.{◌≡◌, ℕ, zero, suc, ◌+◌, ◌-◌, ◌*◌, ◌/◌, ◌%◌, ◌^◌, ◌<◌, ◌≤◌, Bool, true, false, cond, ◌&&◌, eqb, ltb, leb, ◌⊎◌, ℤ, pos, negsuc, ◌+ℤ◌, ◌-ℤ◌, ◌*ℤ◌, neg_ℤ, nat_abs, ◌≤ℤ◌, ◌<ℤ◌, Ok, Err, Result, sym, refl, ap, ◌∙◌, subst, inl, inr, zero-mul, arith}
-use lib.IntN.{sub_ℕ}
-use lib.Signed.{mag, mag_rem, lt_z, le_z, quot_z, rem_z}
+use Rattle.std.proofs.Common.{◌≡◌, ℕ, zero, suc, ◌+◌, ◌-◌, ◌*◌, ◌/◌, ◌%◌, ◌<◌, ◌≤◌, Bool, true, false, cond, eqb, ltb, ◌⊎◌, ℤ, pos, negsuc, ◌+ℤ◌, ◌-ℤ◌, ◌*ℤ◌, neg_ℤ, nat_abs, ◌≤ℤ◌, ◌<ℤ◌, Ok, Err, sym, refl, ap, ◌∙◌, inl, inr, zero-mul, arith}
+use lib.Signed.{mag_rem, lt_z, le_z, quot_z, rem_z}
 use Rattle.std.proofs.lemmas.Int.{ints}
-use Rattle.std.proofs.lemmas.Bool.{lt-ltb, le-ltb, ltb-true, ltb-false, leb-true, ne_eqb, and_parts, and_cases, cond-false, true≢false, false≢true}
+use Rattle.std.proofs.lemmas.Bool.{lt-ltb, le-ltb, ltb-true, ltb-false, ne_eqb, and_parts, and_cases}
 use Rattle.std.proofs.lemmas.Bool.Decides.{nat_tests}
 use Rattle.std.proofs.lemmas.Nat.{div-add-mod', mod_below}
-use Rattle.arith.specs.declared.stop.Stop.{Stop}
 use Rattle.arith.specs.declared.stop.Stop.TheVariants.{Overflow, ZeroDivisor}
 use Rattle.arith.specs.declared.relation.Relation.{Relation}
 use Rattle.arith.specs.declared.relation.Relation.TheVariants.{Equal, Unequal, Less, AtMost, Greater, AtLeast}
 use Rattle.arith.specs.declared.shift.Kind.{Kind}
 use Rattle.arith.specs.declared.shift.Kind.TheVariants.{Lsl, Lsr, Asr, Csl, Csr}
-use Rattle.arith.specs.Integers.{int, fitted, divided, sum, difference, product, quotient, remainder, negation, within}
+use Rattle.arith.specs.Integers.{int, fitted, sum, difference, product, quotient, remainder, negation, within}
 use Rattle.arith.specs.Logicals.{lsum, ldifference, lproduct, lquotient, lremainder}
 use Rattle.arith.specs.Relations.{relation_number, relation_of}
 use Rattle.arith.specs.Fields.{field}

@@ -1,5 +1,5 @@
 -- What the operations on words are, said of the numbers and of the bits.
-use Rattle.std.specs.Prelude.{◌≡◌, ℕ, ◌+◌, ◌-◌, ◌*◌, ◌/◌, ◌%◌, ◌^◌, ◌<◌, ◌≤◌, true, false, ◌⊎◌, ℤ, pos, negsuc, ◌+ℤ◌, ◌-ℤ◌, ◌*ℤ◌, neg_ℤ, ◌≤ℤ◌, ◌<ℤ◌, Ok, Err, Result, ◌≢◌, bit_and, bit_or, bit_xor, unsigned_abs}
+use Rattle.std.specs.Prelude.{◌≡◌, ℕ, ◌+◌, ◌-◌, ◌*◌, ◌%◌, ◌^◌, ◌<◌, ◌≤◌, true, false, ◌⊎◌, ℤ, pos, negsuc, ◌+ℤ◌, ◌-ℤ◌, ◌*ℤ◌, neg_ℤ, ◌≤ℤ◌, ◌<ℤ◌, Ok, Err, Result, ◌≢◌, bit_and, bit_or, bit_xor, unsigned_abs}
 use Rattle.arith.specs.declared.stop.Stop.{Stop}
 use Rattle.arith.specs.declared.stop.Stop.TheVariants.{Overflow, ZeroDivisor}
 use Rattle.arith.specs.declared.relation.Relation.{Relation}

@@ -1,5 +1,5 @@
 -- The six relations.
-use Rattle.std.specs.Prelude.{ℕ, zero, suc, Bool, true, false, cond, not, ◌||◌, Some, None, Option, ◌==◌, int_lt, nat_le, nat_lt}
+use Rattle.std.specs.Prelude.{ℕ, zero, suc, Bool, cond, not, ◌||◌, Some, None, Option, ◌==◌, int_lt, nat_le, nat_lt}
 use Rattle.arith.specs.declared.relation.Relation.{Relation}
 use Rattle.arith.specs.declared.relation.Relation.TheVariants.{Equal, Unequal, Less, AtMost, Greater, AtLeast}
 use Rattle.arith.specs.Integers.{int}

@@ -1,6 +1,4 @@
-use Rattle.std.proofs.Common.{◌≡◌, true, false, ℤ, pos, negsuc, ◌+ℤ◌, nat_abs, Ok, ap, ◌∙◌, w32, SFits, to_z, of_z}
-use lib.Signed.{lt_z}
-use Rattle.std.proofs.lemmas.Int.{to_z-of_z}
+use Rattle.std.proofs.Common.{ℤ, pos, ◌+ℤ◌, nat_abs, Ok, ap, ◌∙◌, w32, to_z, of_z}
 use Rattle.arith.proofs.Ints.{fit_high, fit_low, fit_pos, fit_neg, back}
 use Rattle.arith.proofs.integer.fit.Goals as goal
 use Rattle.arith.proofs.integer.fit.Goals.{then-v-lt-LEAST-via-then-v-lt-LEAST, then-v-lt-LEAST-via-else-v-lt-LEAST+then-v-gt-GREATEST}

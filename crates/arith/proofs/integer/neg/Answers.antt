@@ -1,5 +1,4 @@
-use Rattle.std.proofs.Common.{ℤ, pos, ◌-ℤ◌, neg_ℤ, ap, ◌∙◌, w32, SFits, to_z, of_z}
-use Rattle.std.proofs.lemmas.Int.{to_z-of_z}
+use Rattle.std.proofs.Common.{ℤ, pos, ◌-ℤ◌, neg_ℤ, ap, ◌∙◌, w32, to_z, of_z}
 use Rattle.arith.specs.Integers.{fitted, negation}
 use Rattle.arith.proofs.Ints.{negated_fits, zero_minus, back}
 use Rattle.arith.proofs.integer.neg.Goals as goal

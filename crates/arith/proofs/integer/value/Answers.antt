@@ -1,4 +1,4 @@
-use Rattle.std.proofs.Common.{◌≡◌, ◌<◌, ℤ, sym, subst, arith}
+use Rattle.std.proofs.Common.{ℤ, sym, subst, arith}
 use Rattle.arith.specs.Integers.{Small}
 use Rattle.arith.proofs.Ints.{int_low, int_high, small_int}
 use Rattle.arith.proofs.integer.value.Goals as goal

@@ -1,4 +1,4 @@
-use Rattle.std.proofs.Common.{◌≡◌, ◌<◌, ◌≤◌, true, false, ltb, leb, arith, rules}
+use Rattle.std.proofs.Common.{◌≡◌, true, leb, arith}
 use Rattle.std.proofs.lemmas.Bool.{lt-ltb, le-ltb, le-leb}
 use Rattle.arith.specs.Integers.{within, int}
 use Rattle.arith.proofs.integer.within.Goals as goal

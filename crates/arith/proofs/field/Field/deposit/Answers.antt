@@ -1,4 +1,4 @@
-use Rattle.std.proofs.Common.{◌≡◌, ℕ, ◌+◌, ◌-◌, ◌^◌, ◌<◌, ◌≤◌, leb, arith, rules}
+use Rattle.std.proofs.Common.{◌+◌, ◌-◌, ◌<◌, ◌≤◌, leb, arith}
 use Rattle.std.proofs.lemmas.Nat.{one_shl, shr_split}
 use Rattle.std.proofs.lemmas.Bool.{and_parts, leb-true}
 use Rattle.arith.specs.Fields.{deposited}
