@@ -1,5 +1,5 @@
 -- The ends of a list.
-use Rattle.std.proofs.Common.{◌≡◌, ℕ, ◌+◌, ◌-◌, ◌<◌, ◌≤◌, List, [], ◌∷◌, ◌++◌, reverse, length, get_or, take, drop, Some, None, vec_items, vec_len, Option, Vec, sym, refl, ap, ◌∙◌, append_assoc, arith, take-append-drop, MatchOption}
+use Rattle.std.proofs.Common.{◌≡◌, ℕ, ◌+◌, ◌-◌, ◌<◌, ◌≤◌, List, [], ◌∷◌, ◌++◌, reverse, length, get_or, take, drop, Some, None, vec_items, vec_len, Option, Vec, sym, ap, ◌∙◌, append_assoc, arith, take-append-drop, MatchOption}
 use Rattle.std.proofs.lemmas.List.{reverse-append, nil_from_length, get_or_default, get_or-reverse, append-nil}
 use Rattle.std.specs.Option.{option_to_list}
 use Rattle.std.specs.declared.alloc.Global.{Global}

@@ -9,7 +9,7 @@ use Rattle.typed.specs.Instrs.{BR}
 use Rattle.emit.specs.declared.place.Placed.{Placed}
 use Rattle.emit.specs.declared.place.Aim.{Aim}
 use Rattle.emit.specs.Tops.{tl, tops}
-use Rattle.emit.specs.Items.{Back, behind, back, emits, opens, aims, top, along, next, starts, placed, places, ends, table, without, last, emitted}
+use Rattle.emit.specs.Items.{Back, behind, back, emits, aims, top, along, next, starts, placed, places, ends, table, without, last, emitted}
 use Rattle.emit.specs.Passes.{Applied, Low}
 
 pub along_sum : (n p : ℕ) → along n p ≡ p + n

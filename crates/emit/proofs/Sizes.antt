@@ -1,20 +1,20 @@
 -- The length and the depth of what is emitted.
-use Rattle.std.proofs.Common.{◌≡◌, ℕ, zero, suc, ◌+◌, ◌-◌, ◌*◌, ◌<◌, ◌≤◌, max, List, [], ◌∷◌, ◌++◌, length, get_or, drop, vec_items, vec_len, Vec, sym, refl, ap, ◌∙◌, arith, length-append}
+use Rattle.std.proofs.Common.{◌≡◌, ℕ, zero, suc, ◌+◌, ◌-◌, ◌<◌, ◌≤◌, max, List, [], ◌∷◌, ◌++◌, length, get_or, drop, vec_items, vec_len, Vec, sym, refl, ap, ◌∙◌, arith, length-append}
 use Rattle.std.proofs.lemmas.List.{drop_more, drop_all, length-reverse}
 use Rattle.std.specs.declared.alloc.Global.{Global}
 use Rattle.words.specs.declared.instr.Instr.{Instr}
 use Rattle.typed.specs.declared.item.Item.{Item}
 use Rattle.typed.specs.declared.item.Item.TheVariants as item
-use Rattle.typed.specs.Instrs.{BR, HALT, up, down, nth, takes_list, leaves_list, dropped, height, peak}
+use Rattle.typed.specs.Instrs.{HALT, up, down, nth, takes_list, leaves_list, dropped, height, peak}
 use Rattle.typed.specs.Trees.{Body}
 use Rattle.typed.specs.Lists.{items}
-use Rattle.typed.specs.Code.{program, depth}
+use Rattle.typed.specs.Code.{depth}
 use Rattle.emit.specs.declared.place.Aim.{Aim}
 use Rattle.emit.specs.Tops.{tl, tops}
-use Rattle.emit.specs.Items.{go, emits, next, starts, ends, table, along, emitted}
+use Rattle.emit.specs.Items.{go, emits, next, starts, ends, table, emitted}
 use Rattle.emit.specs.Measure.{stacked, deepest}
 use Rattle.emit.specs.Trees.{Emission}
-use Rattle.emit.proofs.Loops.{along_sum, further, ends_further}
+use Rattle.emit.proofs.Loops.{along_sum}
 use Rattle.emit.proofs.Trees.{emission}
 
 pub table_long : (n : ℕ) (ts : List Aim) → length (table n ts) ≡ n

@@ -1,9 +1,9 @@
 -- What is emitted of the items of a tree is its code.
-use Rattle.std.proofs.Common.{◌≡◌, ℕ, zero, suc, List, [], ◌∷◌, ◌++◌, sym, refl, ap, ◌∙◌}
+use Rattle.std.proofs.Common.{◌≡◌, ℕ, suc, List, [], ◌∷◌, ◌++◌, refl, ap, ◌∙◌}
 use Rattle.words.specs.declared.instr.Instr.{Instr}
 use Rattle.typed.specs.declared.item.Item.{Item}
 use Rattle.typed.specs.declared.item.Item.TheVariants as item
-use Rattle.typed.specs.Instrs.{BR, BRE, CASE, FOR, HALT, DROP, STOR, CHK, DUP, LDX, DEP, STX, LOAD}
+use Rattle.typed.specs.Instrs.{BR, BRE, CASE, DROP, CHK, DUP, LDX, LOAD}
 use Rattle.typed.specs.Trees.{Expr, lit, var, pick, bin, un, Clause, test, and, Cond, only, or, Stmt, assign, fill, deposit, deposit_at, when, either, while, repeat, for, case, Body, end, then, Arms, last, arm, size}
 use Rattle.typed.specs.Lists.{items_e, items_l, items_c, items_s, items_b, items_a, items}
 use Rattle.typed.specs.Code.{end_e, end_l, end_c, end_s, end_b, end_a, table_end, table as branches, code_e, code_l, code_c, code_s, code_b, code_a, program}

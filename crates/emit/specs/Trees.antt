@@ -1,5 +1,5 @@
 -- What is emitted of a tree's items is its code, and its depth is the code's.
-use Rattle.std.specs.Prelude.{◌≡◌, ℕ, ◌+◌, List, length}
+use Rattle.std.specs.Prelude.{◌≡◌, ◌+◌, List, length}
 use Rattle.typed.specs.declared.item.Item.{Item}
 use Rattle.typed.specs.Instrs.{peak}
 use Rattle.typed.specs.Trees.{Body}

@@ -1,4 +1,6 @@
 // Code from the typed list, in two passes: forward for the places, backward for the instructions.
+#![tactic(auto)]
+
 pub mod emitter;
 pub mod laws;
 mod measure;

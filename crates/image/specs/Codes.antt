@@ -1,5 +1,5 @@
 -- A code, and its image.
-use Rattle.std.specs.Prelude.{ℕ, zero, suc, ◌+◌, Bool, true, false, ◌&&◌, List, [], ◌∷◌, ◌++◌, length, Some, None, Option, ◌==◌, nat_le}
+use Rattle.std.specs.Prelude.{ℕ, zero, suc, Bool, true, false, ◌&&◌, List, [], ◌∷◌, ◌++◌, length, Some, None, Option, ◌==◌, nat_le}
 use Rattle.words.specs.Rows.{operands_of}
 use Rattle.words.specs.declared.instr.Instr.{Instr}
 use Rattle.image.specs.Groups.{written}

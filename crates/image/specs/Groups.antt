@@ -1,5 +1,5 @@
 -- Numbers in groups of seven bits, the high group first, with the top bit set on all but the last.
-use Rattle.std.specs.Prelude.{ℕ, ◌+◌, ◌-◌, ◌*◌, ◌/◌, ◌%◌, Bool, false, cond, List, [], ◌∷◌, length, Ok, Err, Result, ◌==◌, nat_lt}
+use Rattle.std.specs.Prelude.{ℕ, ◌+◌, ◌-◌, ◌*◌, ◌/◌, ◌%◌, Bool, false, cond, List, [], ◌∷◌, length, Ok, Result, ◌==◌, nat_lt}
 use Rattle.words.specs.Refusals.{refuse}
 use Rattle.words.specs.declared.refusal.Refusal.{Refusal}
 

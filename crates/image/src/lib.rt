@@ -1,4 +1,6 @@
 // The image of a code: its cells, depth and instructions as bytes, written and read back.
+#![tactic(auto)]
+
 mod cursor;
 mod entries;
 pub mod fault;

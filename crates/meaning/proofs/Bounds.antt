@@ -1,8 +1,8 @@
 -- A larger bound changes nothing that was done, and nothing at all once the source has ended.
-use Rattle.std.proofs.Common.{◌≡◌, ℕ, zero, suc, ◌≤◌, Bool, true, false, cond, List, [], ◌∷◌, ◌++◌, Ok, Err, Result, sym, refl, ap, ◌∙◌, append_assoc, append-nil, arith}
+use Rattle.std.proofs.Common.{◌≡◌, ℕ, zero, suc, ◌≤◌, Bool, true, false, List, [], ◌++◌, Ok, Err, Result, sym, refl, append_assoc, append-nil, arith}
 use Rattle.arith.specs.declared.stop.Stop.{Stop}
 use Rattle.typed.specs.Trees.{Stmt, assign, fill, deposit, deposit_at, when, either, while, repeat, for, case, Body, end, then, Arms, last, arm}
-use Rattle.meaning.specs.Effects.{Store, Write, leave, Effect, effect, cut, writes_of, M, before, onward, bind, ret, meets, loop, until}
+use Rattle.meaning.specs.Effects.{Store, Write, leave, Effect, effect, cut, writes_of, M, before, onward, bind, meets, loop, until}
 use Rattle.meaning.specs.Meaning.{exec_s, exec, choice}
 use Rattle.meaning.specs.Bounds.{Bounded}
 use Rattle.meaning.proofs.Stores.{leave_append}

@@ -1,5 +1,5 @@
 -- A source writes its own cells and no other.
-use Rattle.std.proofs.Common.{◌≡◌, ℕ, zero, suc, ◌+◌, ◌<◌, ◌≤◌, Bool, true, false, cond, ◌≢◌, List, [], ◌∷◌, ◌++◌, get_or, set, Ok, Err, Result, sym, refl, ap, ◌∙◌, arith, get_or-set_other}
+use Rattle.std.proofs.Common.{◌≡◌, ℕ, zero, suc, ◌+◌, ◌<◌, ◌≤◌, Bool, true, false, ◌≢◌, List, [], ◌∷◌, ◌++◌, get_or, set, Ok, Err, Result, refl, ◌∙◌, arith, get_or-set_other}
 use Rattle.arith.specs.declared.stop.Stop.{Stop}
 use Rattle.arith.specs.Integers.{sum, subscript}
 use Rattle.typed.specs.Trees.{Expr, lit, var, pick, bin, un, Clause, test, and, Cond, only, or, Stmt, assign, fill, deposit, deposit_at, when, either, while, repeat, for, case, Body, end, then, Arms, last, arm}

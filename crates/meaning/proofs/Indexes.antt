@@ -1,5 +1,5 @@
 -- What is known of an answer: an index that passes its test lies below the bound.
-use Rattle.std.proofs.Common.{◌≡◌, ℕ, ◌-◌, ◌<◌, Bool, true, false, cond, ◌&&◌, ltb, leb, List, ℤ, pos, negsuc, is_ok, Ok, Err, Result, sym, refl, ap, ◌∙◌, subst}
+use Rattle.std.proofs.Common.{◌≡◌, ℕ, ◌-◌, ◌<◌, Bool, true, false, cond, ltb, List, pos, negsuc, is_ok, Ok, Err, Result, refl, ap, subst}
 use lib.Signed.{le_z, lt_z}
 use Rattle.std.proofs.lemmas.Bool.{ltb-true, and_parts, false≢true}
 use Rattle.arith.specs.declared.stop.Stop.{Stop}

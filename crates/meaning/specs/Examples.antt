@@ -1,8 +1,8 @@
 -- What some sources mean.
-use Rattle.std.specs.Prelude.{◌≡◌, ℕ, List, [], ◌∷◌, Ok, Err}
+use Rattle.std.specs.Prelude.{◌≡◌, ℕ, [], ◌∷◌, Ok, Err}
 use Rattle.arith.specs.declared.relation.Relation.TheVariants.{Unequal, Greater, Less}
 use Rattle.arith.specs.declared.stop.Stop.TheVariants.{Overflow, ZeroDivisor, BadIndex, BadCase}
-use Rattle.typed.specs.Trees.{Expr, lit, var, pick, bin, un, add, sub, mul, div, cmp, neg, test, and, only, or, Stmt, assign, fill, deposit, deposit_at, when, either, while, repeat, for, case, Body, end, then, last, arm}
+use Rattle.typed.specs.Trees.{lit, var, bin, add, sub, mul, div, cmp, test, and, only, Stmt, assign, fill, deposit, deposit_at, when, while, repeat, for, case, Body, end, then, last, arm}
 use Rattle.meaning.specs.Effects.{put, effect, cut}
 use Rattle.meaning.specs.Meaning.{exec}
 

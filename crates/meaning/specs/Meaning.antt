@@ -1,5 +1,5 @@
 -- What a source means, said on its tree and never through its code.
-use Rattle.std.specs.Prelude.{◌≡◌, ℕ, zero, suc, ◌+◌, ◌<◌, ◌≤◌, Bool, true, false, cond, List, [], ◌∷◌, Ok, Result, bit_and, bit_or, bit_xor}
+use Rattle.std.specs.Prelude.{◌≡◌, ℕ, zero, suc, ◌+◌, ◌<◌, ◌≤◌, Bool, true, false, cond, Ok, Result, bit_and, bit_or, bit_xor}
 use Rattle.arith.specs.declared.stop.Stop.{Stop}
 use Rattle.arith.specs.Integers.{sum, difference, product, quotient, remainder, negation, subscript, chosen}
 use Rattle.arith.specs.Logicals.{lsum, ldifference, lproduct, lquotient, lremainder, odd}

@@ -1,5 +1,5 @@
 -- The typed list of a tree, with what follows it.
-use Rattle.std.specs.Prelude.{List, [], ◌∷◌, ℕ}
+use Rattle.std.specs.Prelude.{List, [], ◌∷◌}
 use Rattle.arith.specs.Relations.{relation_number}
 use Rattle.arith.specs.Shifts.{kind_number}
 use Rattle.words.specs.declared.instr.Instr.{Instr}

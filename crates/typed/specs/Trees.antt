@@ -1,5 +1,5 @@
 -- A source whose names are cells and whose operators are of one type: what it does is said of this tree.
-use Rattle.std.specs.Prelude.{ℕ, zero, suc}
+use Rattle.std.specs.Prelude.{ℕ, suc}
 use Rattle.arith.specs.declared.relation.Relation.{Relation}
 use Rattle.arith.specs.declared.shift.Kind.{Kind}
 

@@ -1,5 +1,4 @@
-use Rattle.std.proofs.Common.{◌≡◌, ◌+◌, ◌-◌, sym, ◌∙◌, arith}
-use Rattle.typed.specs.Instrs.{height}
+use Rattle.std.proofs.Common.{arith}
 use Rattle.emit.proofs.Sizes.{height_is}
 use Rattle.emit.proofs.measure.height_after.Goals as goal
 

@@ -1,5 +1,5 @@
-use Rattle.std.proofs.Common.{◌≡◌, arith}
-use Rattle.typed.specs.Instrs.{nth, leaves_list}
+use Rattle.std.proofs.Common.{arith}
+use Rattle.typed.specs.Instrs.{leaves_list}
 use Rattle.emit.proofs.Tables.{nth_in, nth_past, nth_biggest}
 use Rattle.emit.proofs.measure.leaves.Goals as goal
 

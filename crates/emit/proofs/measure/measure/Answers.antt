@@ -1,9 +1,9 @@
-use Rattle.std.proofs.Common.{◌≡◌, ◌+◌, get_or, drop, sym, ap, ◌∙◌, arith}
+use Rattle.std.proofs.Common.{◌+◌, get_or, drop, sym, ap, ◌∙◌, arith}
 use Rattle.typed.specs.declared.item.Item.TheVariants as item
 use Rattle.typed.specs.Instrs.{HALT}
 use Rattle.emit.specs.Items.{next, ends}
 use Rattle.emit.proofs.Loops.{ends_further, ends_more}
-use Rattle.emit.proofs.Sizes.{deepest_above, deepest_more, at_end}
+use Rattle.emit.proofs.Sizes.{deepest_more, at_end}
 use Rattle.emit.proofs.measure.measure.Goals as goal
 
 pub returns-then-place-limit : goal.returns-then-place-limit

@@ -1,4 +1,4 @@
-use Rattle.std.proofs.Common.{suc, length, ap, arith}
+use Rattle.std.proofs.Common.{length, ap, arith}
 use Rattle.emit.specs.Tops.{tops}
 use Rattle.emit.specs.Items.{emits}
 use Rattle.emit.proofs.Sizes.{table_long}

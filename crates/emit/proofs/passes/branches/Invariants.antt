@@ -1,4 +1,4 @@
-use Rattle.std.proofs.Common.{◌≡◌, ◌+◌, ◌≤◌, ◌++◌, vec_len, vec_capacity}
+use Rattle.std.proofs.Common.{◌≡◌, ◌+◌, ◌++◌, vec_len, vec_capacity}
 use Rattle.emit.specs.Tops.{tops}
 use Rattle.emit.specs.Items.{table}
 use Rattle.emit.proofs.passes.branches.Given as goal

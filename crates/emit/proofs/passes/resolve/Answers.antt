@@ -1,7 +1,6 @@
-use Rattle.std.proofs.Common.{◌≡◌, ◌+◌, ◌≤◌, length, vec_items, vec_len, sym, ap, ◌∙◌, arith, rules}
+use Rattle.std.proofs.Common.{◌≡◌, ◌+◌, vec_items, vec_len, arith, rules}
 use Rattle.emit.specs.Tops.{tops}
-use Rattle.emit.specs.Items.{Back, back, last}
-use Rattle.emit.specs.Passes.{Low}
+use Rattle.emit.specs.Items.{last}
 use Rattle.emit.proofs.Loops.{back_more, back_room, low_last, longer, tops_long}
 use Rattle.emit.proofs.passes.resolve.Goals as goal
 

@@ -1,4 +1,4 @@
-use Rattle.std.proofs.Common.{◌≡◌, ◌-◌, List, [], length, drop}
+use Rattle.std.proofs.Common.{◌≡◌, ◌-◌, [], length, drop}
 use Rattle.words.specs.Lists.{held, room}
 use Rattle.image.specs.Cursors.{rest_of}
 use Rattle.image.specs.Reading.{entries_at}

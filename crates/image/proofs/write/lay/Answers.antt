@@ -1,4 +1,4 @@
-use Rattle.std.proofs.Common.{◌≡◌, ◌++◌, length, sym, ap, ◌∙◌, arith}
+use Rattle.std.proofs.Common.{length, sym, ap, ◌∙◌, arith}
 use Rattle.image.specs.Codes.{coded, image}
 use Rattle.image.proofs.Appends.{appended_then, from_nothing}
 use Rattle.image.proofs.Bodies.{image_length}

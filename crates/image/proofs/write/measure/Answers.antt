@@ -1,8 +1,7 @@
-use Rattle.std.proofs.Common.{◌≡◌, ℕ, ◌+◌, ◌*◌, ◌≤◌, List, length, get_or, take, drop, sym, ap, ◌∙◌, arith}
-use Rattle.std.proofs.lemmas.List.{length-append, take_all, drop_all}
+use Rattle.std.proofs.Common.{◌≡◌, List, length, get_or, take, ap, ◌∙◌, arith}
+use Rattle.std.proofs.lemmas.List.{length-append, take_all}
 use Rattle.words.specs.declared.instr.Instr.{Instr}
 use Rattle.image.specs.Codes.{body_bytes, entry_bytes}
-use Rattle.image.specs.Writing.{judged}
 use Rattle.image.proofs.Bodies.{none, body_more, good_size, bad_size, judged_more, judged_bad, judged_end, measured_bad, measured_good}
 use Rattle.image.proofs.write.measure.Goals as goal
 

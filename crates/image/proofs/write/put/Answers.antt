@@ -1,4 +1,4 @@
-use Rattle.std.proofs.Common.{◌≡◌, ℕ, List, [], ◌∷◌, length, sym, ap, ◌∙◌, subst, arith}
+use Rattle.std.proofs.Common.{ℕ, List, length, sym, ap, ◌∙◌, subst, arith}
 use Rattle.image.specs.Writing.{Appended}
 use Rattle.image.proofs.Appends.{appended_then}
 use Rattle.image.proofs.Sizes.{written_one, written_two, written_three}

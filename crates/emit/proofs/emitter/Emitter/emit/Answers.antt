@@ -1,8 +1,8 @@
-use Rattle.std.proofs.Common.{◌≡◌, ◌+◌, ◌<◌, ◌≤◌, [], ◌++◌, length, drop, vec_items, vec_len, sym, ap, ◌∙◌, subst, arith, rules}
+use Rattle.std.proofs.Common.{◌≡◌, ◌<◌, [], ◌++◌, length, vec_items, vec_len, sym, ap, ◌∙◌, subst, arith, rules}
 use Rattle.emit.specs.Tops.{tops}
-use Rattle.emit.specs.Items.{places, ends, emitted, back, last}
+use Rattle.emit.specs.Items.{places, ends, emitted}
 use Rattle.emit.specs.Passes.{Low}
-use Rattle.emit.proofs.Loops.{low_places, back_code, tops_long}
+use Rattle.emit.proofs.Loops.{low_places, back_code}
 use Rattle.emit.proofs.Sizes.{emitted_long, made_long}
 use Rattle.emit.proofs.emitter.Emitter.emit.Goals as goal
 

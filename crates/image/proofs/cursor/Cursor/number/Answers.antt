@@ -1,4 +1,4 @@
-use Rattle.std.proofs.Common.{◌≡◌, sym, ap, ◌∙◌}
+use Rattle.std.proofs.Common.{sym, ap, ◌∙◌}
 use Rattle.words.specs.Refusals.{refuse}
 use Rattle.image.specs.Cursors.{rest_of}
 use Rattle.image.specs.Groups.{more}

@@ -1,8 +1,6 @@
 use Rattle.std.proofs.Common.{[], ◌∷◌, ◌++◌, ◌∙◌}
 use Rattle.std.proofs.lemmas.Result.{err_from_is_err_and}
 use Rattle.image.specs.Cursors.{rest_of}
-use Rattle.image.specs.Faults.{refusal_of}
-use Rattle.image.specs.Reading.{entries_at}
 use Rattle.image.proofs.Walks.{walk_on, walk_stop, walk_end, walked}
 use Rattle.image.proofs.cursor.Cursor.walk.Goals as goal
 
