@@ -1,5 +1,5 @@
 -- Numbers past the table.
-use Rattle.std.proofs.Common.{◌≡◌, ℕ, zero, suc, ◌≤◌, List, [], ◌∷◌, length, Ok, Err, refl, arith}
+use Rattle.std.proofs.Common.{◌≡◌, ℕ, zero, suc, ◌≤◌, List, [], ◌∷◌, length, Err, refl, arith}
 use Rattle.machine.specs.declared.ending.Ending.TheVariants.{BadOperand}
 use Rattle.machine.specs.declared.op.Op.{Op}
 use Rattle.machine.specs.Table.{nth}

@@ -1,5 +1,5 @@
 -- The instructions, row by row. Operations on words are those of `arith`.
-use Rattle.std.specs.Prelude.{ℕ, zero, suc, ◌+◌, ◌-◌, Bool, true, false, cond, ◌&&◌, List, [], ◌∷◌, length, Ok, Err, Result, ◌==◌, bit_and, bit_or, bit_xor, nat_le, nat_lt, slice_index}
+use Rattle.std.specs.Prelude.{ℕ, zero, suc, ◌+◌, ◌-◌, Bool, true, cond, ◌&&◌, List, [], ◌∷◌, length, Ok, Err, Result, ◌==◌, bit_and, bit_or, bit_xor, nat_le, nat_lt, slice_index}
 use Rattle.arith.specs.declared.stop.Stop.{Stop}
 use Rattle.arith.specs.Integers.{sum, difference, product, quotient, remainder, negation, subscript, chosen, turns}
 use Rattle.arith.specs.Logicals.{lsum, ldifference, lproduct, lquotient, lremainder, odd}
@@ -11,7 +11,6 @@ use Rattle.words.specs.declared.instr.Instr.{Instr}
 use Rattle.machine.specs.declared.ending.Ending.{Ending}
 use Rattle.machine.specs.declared.ending.Ending.TheVariants.{Halted, Stopped, Missing, BadOperand, Outside}
 use Rattle.machine.specs.declared.vm.Move.{Move}
-use Rattle.machine.specs.declared.vm.Kind.{Kind}
 use Rattle.machine.specs.declared.vm.Kind.TheVariants.{Goes, Pushes, Writes}
 use Rattle.machine.specs.declared.op.Op.{Op}
 use Rattle.machine.specs.declared.op.Op.TheVariants.{Halt, Lit, Load, Stor, Ldx, Stx, Chk, Dup, Drop, Add, Sub, Mul, Div, Rem, Neg, Ladd, Lsub, Lmul, Ldiv, Lrem, Cmp, Lcmp, And, Or, Xor, Not, Fld, Dep, Shf, Br, Bre, Case, For, Next}

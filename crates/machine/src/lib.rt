@@ -1,4 +1,6 @@
 // The card machine: one step of its instructions over an operand stack and a store of words.
+#![tactic(auto)]
+
 mod act;
 mod bitwise;
 mod control;

@@ -1,4 +1,6 @@
 // Sessions of the card machine: start, resume, look, report, and the single run.
+#![tactic(auto)]
+
 pub mod call;
 pub mod fault;
 pub mod session;

@@ -1,5 +1,5 @@
-use Rattle.std.proofs.Common.{◌≡◌, ℕ, suc, ◌+◌, ◌≤◌, sym, ap, arith}
-use Rattle.machine.specs.Table.{decoded, nth, ops}
+use Rattle.std.proofs.Common.{◌≡◌, sym, ap, arith}
+use Rattle.machine.specs.Table.{decoded, ops}
 use Rattle.machine.proofs.Past.{past}
 use Rattle.machine.proofs.op.decode.Goals as goal
 

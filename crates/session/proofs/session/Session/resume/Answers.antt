@@ -1,4 +1,4 @@
-use Rattle.std.proofs.Common.{◌≡◌, sym, ap, subst, arith}
+use Rattle.std.proofs.Common.{sym, subst, arith}
 use Rattle.machine.specs.Machine.{state}
 use Rattle.session.proofs.Kept.{Holds, run_holds}
 use Rattle.session.proofs.session.Session.resume.Goals as goal
