@@ -1,6 +1,6 @@
 -- The grammar as a machine that takes one token at a time. Its state is a stack of goals, what is to be read or
 -- written next on top, and the entries written so far. A refusal is its answer at once.
-use Rattle.std.specs.Prelude.{ℕ, ◌-◌, Bool, true, false, cond, List, [], ◌∷◌, ◌++◌, Some, None, Ok, Option, Result, ◌==◌}
+use Rattle.std.specs.Prelude.{ℕ, ◌-◌, Bool, true, false, cond, List, [], ◌∷◌, ◌++◌, Some, None, Ok, Result, ◌==◌}
 use Rattle.words.specs.declared.refusal.Refusal.{Refusal}
 use Rattle.words.specs.Refusals.{refuse}
 use Rattle.text.specs.declared.token.Kind.{Kind}
@@ -17,7 +17,7 @@ use Rattle.syntax.specs.declared.lexeme.Opening.{Opening}
 use Rattle.syntax.specs.declared.lexeme.Opening.TheVariants as opening
 use Rattle.syntax.specs.Entries.{Entry}
 use Rattle.syntax.specs.Entries as entry
-use Rattle.syntax.specs.Marks.{Mark, Tok, stop, seen, is_symbol, is_keyword, is_stop, decimal_of, spelled_of, literal_of, kind_of, shift_of, opening_of, operator_at}
+use Rattle.syntax.specs.Marks.{Tok, stop, seen, is_symbol, is_keyword, is_stop, decimal_of, spelled_of, literal_of, kind_of, shift_of, opening_of, operator_at}
 
 -- the entries of a source, or its refusal
 abbrev pub Parsed : Type 0

@@ -1,6 +1,5 @@
 -- What a source is read to, what a workspace holds, and what `read` leaves in it.
 use Rattle.std.specs.Prelude.{◌≡◌, ℕ, List, [], length, Ok, Err, Result}
-use Rattle.words.specs.declared.refusal.Refusal.{Refusal}
 use Rattle.words.specs.Refusals.{then}
 use Rattle.text.specs.Cut.{Piece, texted}
 use Rattle.syntax.specs.declared.fault.GrammarFault.{GrammarFault}

@@ -1,4 +1,6 @@
 // From the tokens of a source to its syntax list.
+#![tactic(auto)]
+
 mod class;
 pub mod fault;
 pub mod lexeme;

@@ -1,13 +1,13 @@
 -- What has the form of a token, by its first byte. Assumes nothing.
-use Rattle.std.proofs.Common.{◌≡◌, ℕ, zero, suc, ◌+◌, ◌-◌, ◌<◌, ◌≤◌, Bool, true, false, cond, ◌&&◌, ◌||◌, eqb, ltb, leb, ◌⊎◌, List, [], ◌∷◌, ◌++◌, length, take, drop, sym, refl, ap, ◌∙◌, subst, inl, inr, ⊎_elim, one-add, arith}
-use Rattle.std.proofs.lemmas.Bool.{cases_Bool, or_from, ne_eqb, and_parts, and_left, and_right, leb-true, lt-leb, cond_both, eq-eqb, eqb-true, eqb-false}
-use Rattle.std.specs.List.{prefix_len, AllByRecursion as All}
+use Rattle.std.proofs.Common.{◌≡◌, ℕ, ◌+◌, ◌<◌, ◌≤◌, true, false, cond, eqb, leb, List, [], ◌∷◌, ◌++◌, length, take, sym, refl, ap, ◌∙◌, subst, inl, inr, ⊎_elim, one-add, arith}
+use Rattle.std.proofs.lemmas.Bool.{cases_Bool, or_from, ne_eqb, and_parts, and_left, leb-true, lt-leb, cond_both, eqb-true}
+use Rattle.std.specs.List.{prefix_len}
 use Rattle.text.specs.declared.token.Symbol.{Symbol}
 use Rattle.text.specs.declared.token.Symbol.TheVariants as sym·
 use Rattle.text.specs.declared.scan.Start.{Start}
 use Rattle.text.specs.declared.scan.Start.TheVariants.{Letter, Decimal, Percent, Comment, Other}
 use Rattle.text.specs.declared.scan.Class.{Class}
-use Rattle.text.specs.Lexemes.{blank, capital, digit, passes, opens, start_of, symbol_text}
+use Rattle.text.specs.Lexemes.{blank, capital, digit, passes, opens, symbol_text}
 use Rattle.text.specs.Forms.{AllOf, WordForm, IntegerForm, LogicalForm, SymbolForm, Form}
 use Rattle.text.proofs.Signs.{symbol_long}
 

@@ -1,11 +1,10 @@
 -- A search by name, and what it finds. Assumes nothing.
-use Rattle.std.proofs.Common.{◌≡◌, ℕ, zero, suc, ◌<◌, true, false, List, [], ◌∷◌, map, length, get_or, Some, None, Option, sym, refl, ap, ◌∙◌, subst, ⊎_elim, arith}
+use Rattle.std.proofs.Common.{◌≡◌, ℕ, zero, suc, true, false, List, [], ◌∷◌, map, get_or, Some, None, refl, ap, ◌∙◌, ⊎_elim, arith}
 use Rattle.std.proofs.lemmas.Slice.Eq.{bytes_eq-Decides}
 use Rattle.std.proofs.lemmas.Bool.{cases_Bool}
 use Rattle.std.specs.Str.{bytes_eq}
-use Rattle.text.specs.declared.token.Keyword.{Keyword}
 use Rattle.text.specs.declared.reserved.Reserved.{Reserved}
-use Rattle.text.specs.Names.{name_of, First, Unlike}
+use Rattle.text.specs.Names.{name_of, First}
 use Rattle.text.specs.Reserved.{Word, entry_of, lookup, reserved_words, keyword_of}
 
 abbrev pub spelled : Reserved → List ℕ

@@ -1,12 +1,12 @@
 -- The cut of a text is its reading. Assumes nothing.
-use Rattle.std.proofs.Common.{◌≡◌, ℕ, zero, suc, ◌+◌, ◌-◌, ◌<◌, ◌≤◌, true, false, cond, eqb, ltb, List, [], ◌∷◌, ◌++◌, length, take, drop, Some, None, Ok, Err, Option, Result, sym, refl, ap, ◌∙◌, subst, arith}
+use Rattle.std.proofs.Common.{◌≡◌, ℕ, zero, suc, ◌+◌, ◌-◌, ◌<◌, ◌≤◌, eqb, List, [], ◌∷◌, ◌++◌, length, take, drop, Some, None, Ok, Err, Option, sym, refl, ap, ◌∙◌, subst, arith}
 use Rattle.std.proofs.lemmas.List.{append_assoc, length-append, length-drop, length-take-le, take-append-drop}
-use Rattle.std.proofs.lemmas.Bool.{cond_both, eqb-true, eqb-false, lt-ltb, le-ltb}
+use Rattle.std.proofs.lemmas.Bool.{cond_both, eqb-true, eqb-false, le-ltb}
 use Rattle.std.specs.List.{flat_map}
 use Rattle.words.specs.declared.refusal.Refusal.{Refusal}
 use Rattle.text.specs.Lexemes.{gap_of}
 use Rattle.text.specs.Cut.{Piece, Front, onward, width_of, Cut, lexeme, cut, left, fault, settled, texted}
-use Rattle.text.specs.Theorems.{Part, token, spelling, tokens_in, Right, AllRight, Refused, Ending, Reading, TextStands}
+use Rattle.text.specs.Theorems.{Part, token, spelling, tokens_in, Right, AllRight, Refused, Reading, TextStands}
 use Rattle.text.proofs.Cutting.{Wide, lexeme_wide}
 use Rattle.text.proofs.Sound.{Sound, lexeme_sound, Gap, gap_part}
 use Rattle.text.proofs.Unique.{reading_one}

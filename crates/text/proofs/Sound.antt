@@ -1,23 +1,22 @@
 -- The token at the front is right at its place, or the refusal is. Assumes nothing.
-use Rattle.std.proofs.Common.{◌≡◌, ℕ, zero, suc, ◌+◌, ◌-◌, ◌<◌, ◌≤◌, Bool, true, false, cond, ◌&&◌, ◌||◌, eqb, ltb, leb, ◌⊎◌, List, [], ◌∷◌, ◌++◌, length, take, drop, Some, None, Ok, Err, Option, sym, refl, ap, ◌∙◌, subst, inl, inr, ⊎_elim, one-add, arith}
+use Rattle.std.proofs.Common.{◌≡◌, ℕ, zero, suc, ◌+◌, ◌<◌, ◌≤◌, true, false, ◌&&◌, eqb, ltb, leb, ◌⊎◌, List, [], ◌∷◌, ◌++◌, length, take, drop, Some, None, Ok, Err, Option, sym, refl, ap, ◌∙◌, subst, inl, inr, ⊎_elim, one-add, arith}
 use Rattle.std.proofs.lemmas.List.{take-append-drop, length-take-le, length-append, append_assoc, take_at, drop_at, take_rest}
 use Rattle.std.proofs.lemmas.List.Sums.{prefix_len-le-length}
 use Rattle.std.proofs.lemmas.Bool.{cases_Bool, and_parts, leb-true, leb-false, ltb-true, ltb-false, cond_both, eqb-true, eqb-false, or_left}
 use Rattle.std.specs.List.{prefix_len}
 use Rattle.words.specs.Refusals.{refuse}
-use Rattle.text.specs.declared.token.Kind.{Kind}
 use Rattle.text.specs.declared.token.Kind.TheVariants.{Integer, Logical}
 use Rattle.text.specs.declared.token.Symbol.{Symbol}
 use Rattle.text.specs.declared.scan.Start.{Start}
 use Rattle.text.specs.declared.scan.Start.TheVariants.{Letter, Decimal, Percent, Comment, Other}
 use Rattle.text.specs.declared.scan.Class.{Class}
 use Rattle.text.specs.declared.scan.Class.TheVariants.{WordByte, Digit, OctalDigit}
-use Rattle.text.specs.Lexemes.{blank, capital, digit, passes, digit_of, base_of, most_of, value_of, within, opens, blanks, start_of, symbol_text, sign_of, gap_of, closing, commented}
+use Rattle.text.specs.Lexemes.{blank, capital, digit, passes, value_of, within, opens, blanks, start_of, symbol_text, sign_of, gap_of, closing}
 use Rattle.text.proofs.Fronts.{gap_blank, gap_none, gap_comment}
 use Rattle.std.specs.Option.{option_map}
 use Rattle.text.specs.Cut.{Piece, word, number, symbol, Front, good, word_of, number_of, valued, symbol_of, lexed, lexeme}
-use Rattle.text.specs.Forms.{AllOf, WordForm, IntegerForm, LogicalForm, SymbolForm, Form, Spells, Longest}
-use Rattle.text.specs.Theorems.{Part, token, gap, comment, spelling, tokens_in, Right, Refused, NoToken, BadToken, OpenComment}
+use Rattle.text.specs.Forms.{AllOf, WordForm, IntegerForm, LogicalForm, SymbolForm, Spells, Longest}
+use Rattle.text.specs.Theorems.{Part, token, gap, comment, spelling, tokens_in, Right, Refused, BadToken, OpenComment}
 use Rattle.text.proofs.Cutting.{Starts, starts}
 use Rattle.text.proofs.Signs.{Stands, sign_stands, Reaches, sign_longest}
 use Rattle.text.proofs.FirstBytes.{kind_of, kind_letter, kind_decimal, kind_percent, kind_other, FormAs, HeadOther, symbol_other, by_form, not_opens, lead_all, lead_most}

@@ -1,21 +1,20 @@
 -- A source has one reading. Assumes nothing.
-use Rattle.std.proofs.Common.{◌≡◌, ℕ, suc, ◌+◌, ◌<◌, ◌≤◌, Bool, true, false, cond, ◌&&◌, ◌||◌, eqb, ◌⊎◌, List, [], ◌∷◌, ◌++◌, length, drop, Some, None, Ok, Err, Option, Result, sym, refl, ap, ◌∙◌, subst, inl, inr, arith}
+use Rattle.std.proofs.Common.{◌≡◌, ℕ, ◌+◌, true, false, eqb, ◌⊎◌, List, [], ◌∷◌, ◌++◌, length, Some, Ok, Err, Option, Result, sym, refl, ap, ◌∙◌, subst, inl, inr, arith}
 use Rattle.std.proofs.lemmas.List.{append_assoc}
-use Rattle.std.proofs.lemmas.Bool.{and_parts, and_left, both_ways, eqb-true}
+use Rattle.std.proofs.lemmas.Bool.{and_parts, both_ways, eqb-true}
 use Rattle.std.specs.Option.{option_map}
 use Rattle.std.specs.List.{flat_map}
 use Rattle.words.specs.declared.refusal.Refusal.{Refusal}
 use Rattle.text.specs.declared.token.Kind.TheVariants.{Integer, Logical}
 use Rattle.text.specs.declared.token.Symbol.{Symbol}
 use Rattle.text.specs.declared.token.Symbol.TheVariants as sym·
-use Rattle.text.specs.declared.scan.Start.{Start}
-use Rattle.text.specs.declared.scan.Start.TheVariants.{Letter, Decimal, Percent, Other}
-use Rattle.text.specs.Lexemes.{blank, blanks, opens, sign_of, symbol_text, value_of}
+use Rattle.text.specs.declared.scan.Start.TheVariants.{Other}
+use Rattle.text.specs.Lexemes.{blank, opens, sign_of, symbol_text}
 use Rattle.text.specs.Cut.{Piece, word, number, symbol}
-use Rattle.text.specs.Forms.{Form, SymbolForm, Spells, place_of, Longest}
+use Rattle.text.specs.Forms.{Form, SymbolForm, Spells, place_of}
 use Rattle.text.specs.Theorems.{Part, token, gap, comment, spelling, tokens_in, Right, AllRight, NoToken, BadToken, OpenComment, Refused, Ending, Reading}
 use Rattle.text.proofs.FirstBytes.{kind_of, no_form, by_form, kind_blank}
-use Rattle.text.proofs.Sound.{piece_kind, spells_kind}
+use Rattle.text.proofs.Sound.{spells_kind}
 
 -- two fronts of one text that are equally long
 same_front : (u v a b : List ℕ) → u ++ a ≡ v ++ b → length u ≡ length v → (u ≡ v) × (a ≡ b)

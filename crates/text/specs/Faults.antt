@@ -1,5 +1,4 @@
 -- The number and the place of each refusal of a text.
-use Rattle.std.specs.Prelude.{ℕ}
 use Rattle.words.specs.declared.refusal.Refusal.{Refusal}
 use Rattle.text.specs.declared.fault.TextFault.{TextFault}
 use Rattle.text.specs.declared.fault.TextFault.TheVariants.{TooLong, NoToken, BadToken, OpenComment}

@@ -1,7 +1,6 @@
 -- What is said of a whole source.
 use Rattle.std.specs.Prelude.{◌≡◌, ℕ, List, map, length, Ok, Err, vec_items, Result, Vec}
 use Rattle.std.specs.declared.alloc.Global.{Global}
-use Rattle.words.specs.declared.refusal.Refusal.{Refusal}
 use Rattle.text.specs.declared.token.Token.{Token}
 use Rattle.text.specs.declared.fault.TextFault.{TextFault}
 use Rattle.text.specs.declared.whole.TokensFault.{TokensFault}

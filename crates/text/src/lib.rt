@@ -1,4 +1,6 @@
 // The text of a source cut into tokens, and the one search by name.
+#![tactic(auto)]
+
 pub mod fault;
 pub mod name;
 pub mod reserved;

@@ -1,4 +1,4 @@
-use Rattle.std.proofs.Common.{◌≡◌, ◌+◌, ◌-◌, ◌≤◌, length, drop}
+use Rattle.std.proofs.Common.{◌≡◌, ◌+◌, ◌-◌, drop}
 use Rattle.std.specs.Option.{option_map}
 use Rattle.text.specs.Lexemes.{closing}
 use Rattle.text.proofs.scan.closing.Given as goal

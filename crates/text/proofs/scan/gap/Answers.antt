@@ -1,4 +1,4 @@
-use Rattle.std.proofs.Common.{◌≡◌, length, Some, None, sym, ap, ◌∙◌, arith}
+use Rattle.std.proofs.Common.{length, Some, None, sym, ap, arith}
 use Rattle.std.proofs.lemmas.List.{length-drop, take_rest}
 use Rattle.text.proofs.Fronts.{gap_blank, gap_none, gap_comment}
 use Rattle.text.proofs.scan.gap.Goals as goal

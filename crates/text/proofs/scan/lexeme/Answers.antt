@@ -1,4 +1,4 @@
-use Rattle.std.proofs.Common.{◌≡◌, Err, ◌∙◌}
+use Rattle.std.proofs.Common.{Err, ◌∙◌}
 use Rattle.text.specs.declared.fault.TextFault.TheVariants.{OpenComment}
 use Rattle.text.specs.declared.scan.Start.TheVariants.{Letter, Decimal, Percent, Comment, Other}
 use Rattle.text.proofs.Cutting.{lexeme_by, made_wide}

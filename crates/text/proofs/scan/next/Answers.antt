@@ -1,9 +1,8 @@
-use Rattle.std.proofs.Common.{◌≡◌, ℕ, ◌-◌, length, Err, sym, refl, ap, ◌∙◌, subst}
+use Rattle.std.proofs.Common.{ℕ, length, sym, ap, ◌∙◌}
 use Rattle.std.proofs.lemmas.List.{take_rest}
 use Rattle.std.proofs.lemmas.Result.{err_from_is_err_and}
 use Rattle.std.proofs.lemmas.Bool.{eqb-true, eqb-false}
-use Rattle.text.specs.Faults.{refusal_of}
-use Rattle.text.specs.Cut.{Front, good, piece, lexeme}
+use Rattle.text.specs.Cut.{piece, lexeme}
 use Rattle.text.proofs.Cutting.{first_none, next_refused, next_token, steps_none, steps_refused, steps_token, short_token}
 use Rattle.text.proofs.scan.next.Goals as goal
 

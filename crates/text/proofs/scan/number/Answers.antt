@@ -1,5 +1,5 @@
-use Rattle.std.proofs.Common.{◌≡◌, ℕ, ◌+◌, ◌-◌, take, Some, None, sym, ap, ◌∙◌, arith}
-use Rattle.text.specs.Cut.{Front, good, number}
+use Rattle.std.proofs.Common.{◌≡◌, ℕ, ◌+◌, ◌-◌, take, Some, None, ap, ◌∙◌, arith}
+use Rattle.text.specs.Cut.{good, number}
 use Rattle.text.proofs.Cutting.{number_none, number_valued}
 use Rattle.text.proofs.scan.number.Goals as goal
 

@@ -1,4 +1,3 @@
-use Rattle.std.proofs.Common.{arith}
 use Rattle.text.proofs.Fronts.{value_more, value_over, value_fits}
 use Rattle.text.proofs.scan.value.Goals as goal
 
