@@ -1,4 +1,6 @@
 // spl: the toolchain's program. What matters is in the libraries; here files and lines become calls, and answers text.
+#![tactic(auto)]
+
 mod batch;
 mod cutting;
 mod fields;
