@@ -1,5 +1,5 @@
 -- What each instruction does, as an act of the source or by itself.
-use Rattle.std.proofs.Common.{◌≡◌, ℕ, zero, suc, ◌+◌, ◌<◌, ◌≤◌, Bool, true, false, cond, ◌&&◌, ltb, leb, List, [], ◌∷◌, length, get_or, Ok, Err, Result, sym, refl, ap, ◌∙◌, subst, arith}
+use Rattle.std.proofs.Common.{◌≡◌, ℕ, suc, ◌+◌, ◌<◌, ◌≤◌, true, cond, List, [], ◌∷◌, length, get_or, Ok, Err, Result, refl, ap, ◌∙◌, arith}
 use Rattle.std.proofs.lemmas.Bool.{lt-ltb, le-leb}
 use Rattle.arith.specs.declared.relation.Relation.{Relation}
 use Rattle.arith.specs.declared.relation.Relation.TheVariants.{Equal, Unequal, Less, AtMost, Greater, AtLeast}
@@ -12,21 +12,19 @@ use Rattle.arith.specs.Logicals.{odd}
 use Rattle.arith.specs.Relations.{relation_number, relation_of, compared, lcompared}
 use Rattle.arith.specs.Shifts.{kind_number, kind_of, is_shift, shifted}
 use Rattle.words.specs.declared.instr.Instr.{Instr}
-use Rattle.typed.specs.Instrs.{ins, HALT, LIT, LOAD, STOR, LDX, STX, CHK, DUP, DROP, DEP, BR, BRE, CASE, FOR, NEXT, height}
+use Rattle.typed.specs.Instrs.{HALT, LIT, LOAD, STOR, LDX, STX, CHK, DUP, DROP, DEP, BR, BRE, CASE, FOR, NEXT}
 use Rattle.typed.specs.Lists.{op_instr, uop_instr}
 use Rattle.typed.specs.Trees.{add, sub, mul, div, rem, ladd, lsub, lmul, ldiv, lrem, cmp, lcmp, land, lor, lxor, Uop, neg, not, fld, shf}
 use Rattle.typed.specs.Trees.{Op as Binary}
-use Rattle.machine.specs.declared.ending.Ending.{Ending}
 use Rattle.machine.specs.declared.ending.Ending.TheVariants.{Halted}
-use Rattle.machine.specs.declared.vm.Move.{Move}
 use Rattle.machine.specs.declared.op.Op.{Op}
 use Rattle.machine.specs.declared.op.Op.TheVariants.{Halt, Lit, Load, Stor, Ldx, Stx, Chk, Dup, Drop, Add, Sub, Mul, Div, Rem, Neg, Ladd, Lsub, Lmul, Ldiv, Lrem, Cmp, Lcmp, And, Or, Xor, Not, Fld, Dep, Shf, Br, Bre, Case, For, Next}
-use Rattle.machine.specs.Table.{decoded, then, fine, wants, readied, stopped, cell_of, push, act, On, Push, Write as Puts}
+use Rattle.machine.specs.Table.{decoded, then, fine, wants, stopped, cell_of, push, act, On, Push, Write as Puts}
 use Rattle.machine.specs.Stacks.{hd, tl, off}
 use Rattle.meaning.specs.Effects.{Store, put, says, load, store, element, loaded, place, filled, goes_on, advance, stored, prim}
 use Rattle.meaning.specs.Meaning.{works, works_on, WithinU}
 use Rattle.meaning.proofs.Indexes.{subscript_below}
-use Rattle.agreement.proofs.Moves.{Pos, at, on, halt, lay, acting, move, leads}
+use Rattle.agreement.proofs.Moves.{at, on, halt, lay, acting, move, leads}
 use Rattle.agreement.proofs.Runs.{Placed, next, room, acts, does, Lands, Quiet}
 
 -- an instruction whose operands are in order, where the words are there

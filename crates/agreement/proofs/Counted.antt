@@ -3,7 +3,7 @@ use Rattle.std.proofs.Common.{◌≡◌, ℕ, zero, suc, ◌+◌, ◌-◌, ◌<�
 use Rattle.std.proofs.lemmas.Bool.{cases_lt}
 use Rattle.words.specs.declared.instr.Instr.{Instr}
 use Rattle.machine.specs.declared.ending.Ending.{Ending}
-use Rattle.machine.specs.Machine.{State, step, run}
+use Rattle.machine.specs.Machine.{State, run}
 use Rattle.machine.proofs.Runs.{lawful}
 
 module _ (P : List Instr) (d : ℕ) (s : State) where

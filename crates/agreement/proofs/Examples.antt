@@ -1,5 +1,5 @@
 -- The examples, by computing.
-use Rattle.std.proofs.Common.{ℕ, List, [], ◌∷◌, refl, arith}
+use Rattle.std.proofs.Common.{ℕ, [], ◌∷◌, refl, arith}
 use Rattle.arith.specs.Integers.{int, fitted, sum, difference, product, quotient, remainder, negation, within, subscript, chosen, turns}
 use Rattle.arith.specs.Logicals.{odd}
 use Rattle.arith.specs.Relations.{compared}

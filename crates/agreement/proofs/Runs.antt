@@ -1,12 +1,12 @@
 -- Runs of the machine, and how they compose.
-use Rattle.std.proofs.Common.{◌≡◌, ℕ, zero, suc, ◌+◌, ◌<◌, ◌≤◌, Bool, true, false, cond, ltb, List, [], ◌∷◌, ◌++◌, length, get_or, Ok, Err, sym, refl, ap, ◌∙◌, subst, append_assoc, append-nil, suc-add, zero-add, arith}
+use Rattle.std.proofs.Common.{◌≡◌, ℕ, zero, suc, ◌+◌, ◌≤◌, Bool, true, false, ltb, List, [], ◌∷◌, ◌++◌, length, get_or, Ok, Err, refl, ◌∙◌, append_assoc, append-nil, suc-add, zero-add, arith}
 use Rattle.arith.specs.declared.stop.Stop.{Stop}
 use Rattle.words.specs.declared.instr.Instr.{Instr}
 use Rattle.typed.specs.Instrs.{height}
 use Rattle.machine.specs.declared.ending.Ending.TheVariants.{Stopped}
 use Rattle.meaning.specs.Effects.{Store, Write, leave, Effect, effect, cut, M, before, onward, bind, ret, meets, Did, did, fails, Act, effect_of, prim, loop, until}
 use Rattle.meaning.proofs.Stores.{leave_append, length_leave}
-use Rattle.agreement.proofs.Moves.{Pos, at, Way, on, halt, lay, acting, blank, move, leads}
+use Rattle.agreement.proofs.Moves.{Pos, at, on, halt, lay, acting, blank, move, leads}
 
 -- P is the program, d its depth, n the number of cells
 module _ (P : List Instr) (d n : ℕ) where

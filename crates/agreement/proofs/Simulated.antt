@@ -1,5 +1,5 @@
 -- The machine with lent words and a height does what it does with its stack as a list.
-use Rattle.std.proofs.Common.{◌≡◌, ℕ, zero, suc, ◌+◌, ◌-◌, ◌<◌, ◌≤◌, Bool, true, false, cond, ltb, leb, List, [], ◌∷◌, length, get_or, set, Ok, Err, Result, sym, refl, ap, ◌∙◌, subst, arith, length-set}
+use Rattle.std.proofs.Common.{◌≡◌, ℕ, zero, suc, ◌+◌, ◌-◌, ◌≤◌, Bool, true, false, cond, ltb, leb, List, length, get_or, Ok, Err, Result, sym, refl, ap, ◌∙◌, arith, length-set}
 use Rattle.std.proofs.lemmas.Bool.{ltb-true, leb-true}
 use Rattle.words.specs.declared.instr.Instr.{Instr}
 use Rattle.machine.specs.declared.ending.Ending.{Ending}
@@ -13,8 +13,8 @@ use Rattle.machine.specs.Table.{decoded, then, fine, wants, readied, act, row, m
 use Rattle.machine.specs.Machine.{State, made, made_by, goes}
 use Rattle.machine.specs.Stacks.{stack_of, hd, tl, off, stacked}
 use Rattle.machine.proofs.Views.{length_stack_of, top_is, next_is, push_stack_of}
-use Rattle.meaning.specs.Effects.{Store, Write, leave}
-use Rattle.agreement.proofs.Moves.{Pos, at, Way, on, halt, laid, lay, acting, blank, fetched, move}
+use Rattle.meaning.specs.Effects.{Write, leave}
+use Rattle.agreement.proofs.Moves.{Pos, at, Way, on, halt, laid, lay, acting, blank, move}
 
 abbrev pub view : State → Pos
 view s = at s.vm.place (stacked s)

@@ -1,6 +1,5 @@
 -- A step that does not end writes a cell exactly where its instruction is one of those that do.
-use Rattle.std.proofs.Common.{◌≡◌, ℕ, zero, suc, ◌+◌, ◌-◌, Bool, true, false, cond, ltb, leb, List, [], ◌∷◌, length, get_or, is_some, is_ok, Some, None, Ok, Err, Option, Result, sym, refl, ap, ◌∙◌, subst, arith}
-use Rattle.std.proofs.lemmas.Bool.{true≢false}
+use Rattle.std.proofs.Common.{◌≡◌, ℕ, zero, suc, ◌+◌, ◌-◌, Bool, true, false, cond, ltb, leb, List, [], ◌∷◌, length, get_or, is_some, Some, None, Ok, Err, Option, Result, sym, refl, ap, ◌∙◌, subst, arith}
 use Rattle.arith.specs.Integers.{sum, subscript, chosen, turns}
 use Rattle.words.specs.declared.instr.Instr.{Instr}
 use Rattle.typed.specs.Trees.{Body}
@@ -13,9 +12,9 @@ use Rattle.machine.specs.declared.vm.Kind.TheVariants.{Goes, Pushes, Writes}
 use Rattle.machine.specs.declared.op.Op.{Op}
 use Rattle.machine.specs.declared.op.Op.TheVariants.{Halt, Lit, Load, Stor, Ldx, Stx, Chk, Dup, Drop, Add, Sub, Mul, Div, Rem, Neg, Ladd, Lsub, Lmul, Ldiv, Lrem, Cmp, Lcmp, And, Or, Xor, Not, Fld, Dep, Shf, Br, Bre, Case, For, Next}
 use Rattle.machine.specs.Table.{ops, nth, decoded, then, fine, wants, stopped, cell_of, push, act, row, moved, On, Write as Puts}
-use Rattle.machine.specs.Machine.{State, made, made_by, goes, counted, ended, settled, stepped, step, run}
+use Rattle.machine.specs.Machine.{State, made, made_by, goes, counted, settled, stepped, step, run}
 use Rattle.meaning.specs.Effects.{Store}
-use Rattle.agreement.specs.Agreement.{start, after}
+use Rattle.agreement.specs.Agreement.{after}
 use Rattle.agreement.specs.Sessions.{storing, writing, writes_in}
 use Rattle.agreement.proofs.Moves.{blank}
 

@@ -1,5 +1,5 @@
 -- The theorem, from what the code does and what is seen of the machine.
-use Rattle.std.proofs.Common.{◌≡◌, ℕ, zero, suc, ◌+◌, ◌-◌, ◌<◌, ◌≤◌, max, ◌⊎◌, List, [], ◌∷◌, ◌++◌, length, get_or, take, Some, None, Ok, Err, Option, Result, sym, refl, ap, ◌∙◌, subst, inl, inr, ⊎_elim, append-nil, arith, length-append}
+use Rattle.std.proofs.Common.{◌≡◌, ℕ, zero, suc, ◌+◌, ◌-◌, ◌<◌, ◌≤◌, ◌⊎◌, List, [], ◌∷◌, ◌++◌, length, get_or, take, Some, None, Ok, Err, Option, Result, sym, refl, ap, ◌∙◌, subst, inl, inr, ⊎_elim, append-nil, arith, length-append}
 use Rattle.std.proofs.lemmas.List.{take_at, take_all}
 use Rattle.std.proofs.lemmas.Bool.{cases_lt, lt-ltb, ltb-true}
 use Rattle.arith.specs.declared.stop.Stop.{Stop}
@@ -11,12 +11,11 @@ use Rattle.typed.specs.Code.{code_b, end_b, program, depth}
 use Rattle.machine.specs.declared.ending.Ending.{Ending}
 use Rattle.machine.specs.declared.ending.Ending.TheVariants.{Halted}
 use Rattle.machine.specs.Endings.{number_of}
-use Rattle.machine.specs.Machine.{State, run}
+use Rattle.machine.specs.Machine.{run}
 use Rattle.machine.proofs.Runs.{lawful}
 use Rattle.meaning.specs.Effects.{Store, Write, leave, Effect, effect, cut, writes_of}
 use Rattle.meaning.specs.Meaning.{exec, Within}
 use Rattle.meaning.proofs.Bounds.{bounded}
-use Rattle.meaning.proofs.Stores.{length_leave}
 use Rattle.agreement.specs.Agreement.{end_of, start, after, Agrees, Keeps, Agreement}
 use Rattle.agreement.proofs.Moves.{Pos, at, halt, blank, move}
 use Rattle.agreement.proofs.Runs.{Run, Got, arrives, stops, cuts, Placed, nothing, place}

@@ -4,7 +4,6 @@ use Rattle.typed.specs.Trees.{Body}
 use Rattle.typed.specs.Code.{program, depth}
 use Rattle.machine.specs.declared.ending.Ending.{Ending}
 use Rattle.machine.specs.declared.ending.Ending.TheVariants.{Halted, Stopped}
-use Rattle.machine.specs.declared.vm.Vm.{Vm}
 use Rattle.machine.specs.Endings.{number_of}
 use Rattle.machine.specs.Machine.{State, state, run}
 use Rattle.meaning.specs.Effects.{Store, Write, leave, Effect, effect, cut, writes_of}

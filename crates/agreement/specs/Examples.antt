@@ -1,5 +1,5 @@
 -- Two sources on the machine.
-use Rattle.std.specs.Prelude.{◌≡◌, ℕ, List, [], ◌∷◌, Some, None}
+use Rattle.std.specs.Prelude.{◌≡◌, [], ◌∷◌, Some}
 use Rattle.arith.specs.declared.stop.Stop.TheVariants.{BadIndex}
 use Rattle.typed.specs.Instrs.{ins}
 use Rattle.typed.specs.Code.{program, depth}
