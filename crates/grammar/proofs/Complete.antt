@@ -1,7 +1,6 @@
 -- What is written as the grammar says is read to its entries. Assumes nothing.
-use Rattle.std.proofs.Common.{◌≡◌, ℕ, ◌-◌, ◌<◌, ◌≤◌, Bool, true, false, cond, List, [], ◌∷◌, ◌++◌, map, Some, None, Ok, Option, sym, refl, ap, ◌∙◌, append-nil, arith}
+use Rattle.std.proofs.Common.{◌≡◌, ℕ, ◌-◌, ◌≤◌, Bool, false, List, [], ◌∷◌, ◌++◌, Some, None, Ok, sym, refl, ap, ◌∙◌, append-nil, arith}
 use Rattle.text.specs.declared.token.Kind.{Kind}
-use Rattle.text.specs.declared.token.Kind.TheVariants as kind
 use Rattle.text.specs.declared.token.Keyword.{Keyword}
 use Rattle.text.specs.declared.token.Keyword.TheVariants as kw
 use Rattle.text.specs.declared.token.Symbol.TheVariants as sign
@@ -9,12 +8,11 @@ use Rattle.syntax.specs.declared.lexeme.Opening.{Opening}
 use Rattle.syntax.specs.declared.lexeme.Opening.TheVariants as opening
 use Rattle.syntax.specs.Entries.{Entry}
 use Rattle.syntax.specs.Entries as entry
-use Rattle.syntax.specs.Marks.{Mark, keyword, Tok, is_symbol, is_keyword, kind_of, kind_word, spelled_of, opening_of, opening_word}
+use Rattle.syntax.specs.Marks.{keyword, Tok, is_keyword, kind_of, kind_word, spelled_of, opening_of, opening_word}
 use Rattle.syntax.specs.Machine.{Goal, feed, expr, condition, inner, stated, stepping, limited, declared}
 use Rattle.syntax.specs.Machine as goal
-use Rattle.trees.specs.Trees.{Expr, Clause, Cond, Body, Arms, Decl, Program, joined}
-use Rattle.trees.specs.Trees as tree
-use Rattle.trees.specs.Lists.{list_e, list_l, list_c, list_p, list_s, list_b, list_a, list_d, list_ds, list}
+use Rattle.trees.specs.Trees.{Clause, Cond, Body, Arms, Decl, Program}
+use Rattle.trees.specs.Lists.{list_e, list_l, list_c, list_b, list_a, list_d, list_ds, list}
 use Rattle.grammar.specs.Grammar.{at, symbol, word, name, decimal, bits, ExprWritten, lor, ClauseWritten, CondWritten, StepWritten, NotElse, StatementWritten, Inside, ListWritten, ArmsWritten, ItemWritten, ItemsWritten, TypedWritten, DeclarationsWritten, ProgramWritten}
 use Rattle.grammar.specs.Grammar as rule
 use Rattle.grammar.proofs.Marks.{grip}

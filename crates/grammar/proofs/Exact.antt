@@ -5,11 +5,9 @@ use Rattle.words.specs.Refusals.{then}
 use Rattle.text.specs.Cut.{Piece, texted}
 use Rattle.syntax.specs.Entries.{Entry}
 use Rattle.syntax.specs.Marks.{seen}
-use Rattle.syntax.specs.Machine.{Parsed, program}
+use Rattle.syntax.specs.Machine.{program}
 use Rattle.syntax.specs.Works.{parse, syntaxed}
-use Rattle.trees.specs.Trees.{Program}
-use Rattle.trees.specs.Lists.{list}
-use Rattle.grammar.specs.Theorems.{Writes, ReadsTheGrammar, ListsATree, OneTree}
+use Rattle.grammar.specs.Theorems.{ReadsTheGrammar, ListsATree, OneTree}
 use Rattle.grammar.proofs.Runs.{run, later_run}
 use Rattle.grammar.proofs.Complete.{program_reads}
 use Rattle.grammar.proofs.Rebuild.{list_one}

@@ -1,5 +1,5 @@
 -- Expressions as they are written are read to their entries. Assumes nothing.
-use Rattle.std.proofs.Common.{◌≡◌, ℕ, ◌-◌, ◌<◌, ◌≤◌, Bool, true, false, cond, List, [], ◌∷◌, ◌++◌, Some, None, Option, sym, refl, ap, ◌∙◌, arith}
+use Rattle.std.proofs.Common.{◌≡◌, ℕ, ◌-◌, ◌≤◌, false, List, [], ◌∷◌, ◌++◌, Some, refl, ap, ◌∙◌, arith}
 use Rattle.text.specs.declared.token.Keyword.TheVariants as kw
 use Rattle.text.specs.declared.token.Symbol.TheVariants as sign
 use Rattle.syntax.specs.declared.node.Operator.{Operator}
@@ -7,11 +7,10 @@ use Rattle.syntax.specs.declared.lexeme.Strength.{Strength}
 use Rattle.syntax.specs.declared.lexeme.Strength.TheVariants as strength
 use Rattle.syntax.specs.Entries.{Entry}
 use Rattle.syntax.specs.Entries as entry
-use Rattle.syntax.specs.Marks.{Mark, Tok, is_symbol, is_keyword, literal_of, kind_of, shift_of, operator_at, rank_of}
+use Rattle.syntax.specs.Marks.{Mark, Tok, is_symbol, is_keyword, literal_of, kind_of, operator_at, rank_of}
 use Rattle.syntax.specs.Machine.{Goal, feed, expr}
 use Rattle.syntax.specs.Machine as goal
 use Rattle.trees.specs.Trees.{Expr}
-use Rattle.trees.specs.Trees as tree
 use Rattle.trees.specs.Lists.{list_e}
 use Rattle.grammar.specs.Grammar.{at, symbol, word, name, decimal, Rank, lor, xor, land, relation, sum, term, factor, primary, Chain, lor_xor, xor_land, land_relation, relation_sum, sum_term, term_factor, factor_primary, Left, lors, xors, lands, sums, terms, FieldWritten, bits, ExprWritten}
 use Rattle.grammar.specs.Grammar as rule

@@ -1,26 +1,25 @@
 -- One token more in front: what a goal stands for, from what the goals stand for that the token puts in its place.
 -- Assumes nothing.
-use Rattle.std.proofs.Common.{◌≡◌, ℕ, ◌-◌, ◌<◌, Bool, true, false, List, [], ◌∷◌, ◌++◌, Some, None, Option, sym, refl, ap, ◌∙◌, subst}
+use Rattle.std.proofs.Common.{◌≡◌, ℕ, ◌-◌, ◌<◌, Bool, true, false, List, [], ◌∷◌, ◌++◌, Some, sym, refl, ap, ◌∙◌, subst}
 use Rattle.text.specs.declared.token.Kind.{Kind}
 use Rattle.text.specs.declared.token.Kind.TheVariants as kind
 use Rattle.text.specs.declared.token.Keyword.{Keyword}
 use Rattle.text.specs.declared.token.Keyword.TheVariants as kw
-use Rattle.text.specs.declared.token.Symbol.{Symbol}
 use Rattle.text.specs.declared.token.Symbol.TheVariants as sign
 use Rattle.syntax.specs.declared.node.Operator.{Operator}
 use Rattle.syntax.specs.declared.lexeme.Strength.{Strength}
 use Rattle.syntax.specs.declared.lexeme.Strength.TheVariants as strength
 use Rattle.syntax.specs.Entries.{Entry}
 use Rattle.syntax.specs.Entries as entry
-use Rattle.syntax.specs.Marks.{Mark, Tok, shift_of, literal_of, kind_of, operator_at}
-use Rattle.syntax.specs.Machine.{Use, part, into, stored}
+use Rattle.syntax.specs.Marks.{Mark, Tok, literal_of, kind_of, operator_at}
+use Rattle.syntax.specs.Machine.{Use, part, into}
 use Rattle.trees.specs.Trees.{Expr, Clause, Cond, Step, Stmt, Body, Arms, Decl, Program, joined}
 use Rattle.trees.specs.Trees as tree
-use Rattle.trees.specs.Lists.{list_e, list_l, list_c, list_p, list_s, list_b, list_a, list_d, list_ds}
+use Rattle.trees.specs.Lists.{list_e, list_c, list_p, list_b, list_a, list_d, list_ds}
 use Rattle.grammar.specs.Grammar.{at, symbol, word, name, decimal, Rank, lor, xor, land, relation, sum, term, factor, primary, Chain, lor_xor, xor_land, land_relation, relation_sum, sum_term, term_factor, factor_primary, Left, FieldWritten, bits, ExprWritten, ClauseWritten, CondWritten, StepWritten, NotElse, StatementWritten, Inside, ListWritten, ArmsWritten, ItemWritten, ItemsWritten, TypedWritten, DeclarationsWritten}
 use Rattle.grammar.specs.Grammar as rule
 use Rattle.grammar.proofs.Runs.{joined_list, appended_list}
-use Rattle.grammar.proofs.Means.{Pred, Got, Put, Takes, Sym, Word, Number, Ex, Cont, Fields, Paren, Becomes, Used, Upto, Bits, Count, Shifts, Test, Clauses, St, In, Ended, EndedArms, Block, ArmsOf, Otherwise, TargetAt, Stepped, Turns, Item, Comma, High, Low}
+use Rattle.grammar.proofs.Means.{Pred, Got, Put, Takes, Sym, Word, Ex, Cont, Fields, Paren, Used, Bits, Shifts, Test, Clauses, St, In, Ended, EndedArms, Block, ArmsOf, Otherwise, TargetAt, Stepped, Turns, Item, Comma, Low}
 
 -- general steps
 

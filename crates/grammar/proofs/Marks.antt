@@ -1,5 +1,5 @@
 -- Marks told apart: what one class of marks is, it is not of another. Assumes nothing.
-use Rattle.std.proofs.Common.{◌≡◌, ℕ, suc, ◌≤◌, max, Bool, true, false, cond, eqb, List, [], ◌∷◌, Some, None, Option, sym, refl, ap, ◌∙◌, subst, arith, ne_eqb, eqb-true}
+use Rattle.std.proofs.Common.{◌≡◌, ℕ, suc, ◌≤◌, max, Bool, true, false, cond, eqb, List, Some, None, Option, sym, refl, ap, ◌∙◌, arith, ne_eqb, eqb-true}
 use Rattle.text.specs.declared.token.Kind.{Kind}
 use Rattle.text.specs.declared.token.Keyword.{Keyword}
 use Rattle.text.specs.declared.token.Keyword.TheVariants as kw
@@ -10,7 +10,7 @@ use Rattle.text.specs.Cut as piece
 use Rattle.text.specs.Reserved.{keyword_of}
 use Rattle.syntax.specs.declared.node.Operator.{Operator}
 use Rattle.syntax.specs.declared.lexeme.Strength.{Strength}
-use Rattle.syntax.specs.Marks.{Mark, Tok, keyword, symbol, name, number, stop, seen, worded, is_stop, is_symbol, is_keyword, sign_number, word_number, literal_of, kind_of, spelled_of, opening_of, operator_of, operator_at, operator_sign, operator_word, strength_of, rank_of, kept, truth_word, truth_at, kind_word}
+use Rattle.syntax.specs.Marks.{Mark, keyword, symbol, name, number, stop, seen, worded, is_stop, is_symbol, is_keyword, sign_number, word_number, literal_of, kind_of, operator_at, operator_sign, operator_word, strength_of, rank_of, kept, truth_word, truth_at, kind_word}
 
 -- Booleans and options
 pub apart : {A : Type 0} → true ≡ false → A

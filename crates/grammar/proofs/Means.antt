@@ -1,6 +1,6 @@
 -- What each goal of the machine stands for: which tokens it takes, as the grammar writes them, and which entries it
 -- leaves. Assumes nothing.
-use Rattle.std.proofs.Common.{◌≡◌, ℕ, ◌-◌, ◌<◌, Bool, true, false, List, [], ◌∷◌, ◌++◌, Some, None, Option, sym, refl, ap, ◌∙◌, subst}
+use Rattle.std.proofs.Common.{◌≡◌, ℕ, ◌-◌, ◌<◌, Bool, true, false, List, [], ◌∷◌, Some}
 use Rattle.text.specs.declared.token.Kind.{Kind}
 use Rattle.text.specs.declared.token.Keyword.{Keyword}
 use Rattle.text.specs.declared.token.Keyword.TheVariants as kw
@@ -14,10 +14,9 @@ use Rattle.syntax.specs.Entries as entry
 use Rattle.syntax.specs.Marks.{Mark, Tok, shift_of}
 use Rattle.syntax.specs.Machine.{Goal, Use, part, into, stored}
 use Rattle.syntax.specs.Machine as goal
-use Rattle.trees.specs.Trees.{Expr, Clause, Cond, Body, Arms, Decl, Program, joined}
-use Rattle.trees.specs.Trees as tree
-use Rattle.trees.specs.Lists.{list_e, list_l, list_c, list_p, list_s, list_b, list_a, list_d, list_ds, list}
-use Rattle.grammar.specs.Grammar.{at, symbol, word, name, decimal, Rank, lor, xor, land, relation, sum, term, factor, primary, ExprWritten, ClauseWritten, CondWritten, StepWritten, NotElse, StatementWritten, Inside, ListWritten, ArmsWritten, ItemWritten, ItemsWritten, TypedWritten, DeclarationsWritten, ProgramWritten}
+use Rattle.trees.specs.Trees.{Expr, Cond, Body, Arms, Decl}
+use Rattle.trees.specs.Lists.{list_e, list_c, list_b, list_a, list_d, list_ds}
+use Rattle.grammar.specs.Grammar.{at, symbol, word, name, decimal, Rank, lor, xor, land, relation, sum, term, factor, primary, ExprWritten, CondWritten, StatementWritten, Inside, ListWritten, ArmsWritten, ItemWritten, ItemsWritten, TypedWritten, DeclarationsWritten}
 
 -- what tokens and entries stand for
 abbrev pub Pred : Type 1

@@ -5,7 +5,7 @@ use Rattle.syntax.specs.Entries.{Entry}
 use Rattle.syntax.specs.Entries as entry
 use Rattle.trees.specs.Trees.{Expr, Clause, Cond, Step, Stmt, Body, Arms, Decl, Program, joined}
 use Rattle.trees.specs.Trees as tree
-use Rattle.trees.specs.Lists.{list_e, list_l, list_c, list_p, list_s, list_b, list_a, list_d, list_ds, list}
+use Rattle.trees.specs.Lists.{list_e, list_l, list_c, list_p, list_s, list_b, list_a, list_ds, list}
 
 abbrev top : {A : Type 0} → A → List A → A
 top x [] = x

@@ -1,15 +1,13 @@
 -- What the machine reads is written as the grammar says. Assumes nothing.
-use Rattle.std.proofs.Common.{◌≡◌, ℕ, ◌-◌, ◌<◌, Bool, true, false, cond, eqb, ◌⊎◌, List, [], ◌∷◌, ◌++◌, map, Some, None, Ok, Err, Option, Result, sym, refl, ap, ◌∙◌, subst, inl, inr, ⊎_elim, append-nil, arith}
+use Rattle.std.proofs.Common.{◌≡◌, ℕ, ◌-◌, ◌<◌, Bool, true, false, cond, eqb, ◌⊎◌, List, [], ◌∷◌, ◌++◌, map, Some, None, Ok, Err, Option, sym, refl, ap, ◌∙◌, subst, inl, inr, ⊎_elim, append-nil, arith}
 use borrow.Author.Tests.{eqb-false}
 use Rattle.words.specs.declared.refusal.Refusal.{Refusal}
 use Rattle.words.specs.Refusals.{refuse}
-use Rattle.text.specs.declared.token.Kind.{Kind}
 use Rattle.text.specs.declared.token.Kind.TheVariants as kind
 use Rattle.text.specs.declared.token.Keyword.{Keyword}
 use Rattle.text.specs.declared.token.Keyword.TheVariants as kw
 use Rattle.text.specs.declared.token.Symbol.{Symbol}
 use Rattle.text.specs.declared.token.Symbol.TheVariants as sign
-use Rattle.syntax.specs.declared.lexeme.Strength.{Strength}
 use Rattle.syntax.specs.declared.lexeme.Strength.TheVariants as strength
 use Rattle.syntax.specs.declared.lexeme.Opening.{Opening}
 use Rattle.syntax.specs.declared.lexeme.Opening.TheVariants as opening
@@ -27,7 +25,7 @@ use Rattle.grammar.specs.Grammar as rule
 use Rattle.grammar.proofs.Marks.{seen_live, both, symbol_is, keyword_is}
 use Rattle.grammar.proofs.Runs.{run, onto}
 use Rattle.grammar.proofs.Complete.{program_at}
-use Rattle.grammar.proofs.Means.{Pred, Got, Put, Takes, Sym, Word, Number, Ex, Cont, Fields, Paren, Becomes, Used, Upto, Bits, Count, Shifts, Test, Clauses, St, In, Ended, EndedArms, Block, ArmsOf, Otherwise, TargetAt, Stepped, Turns, Item, Comma, High, Low, Means, All}
+use Rattle.grammar.proofs.Means.{Sym, Word, Ex, Cont, Fields, Paren, Becomes, Used, Upto, Bits, Count, Clauses, St, In, Block, ArmsOf, Otherwise, TargetAt, Stepped, Item, Comma, High, Low, All}
 use Rattle.grammar.proofs.Grows as grow
 
 -- a refusal is no list

@@ -1,7 +1,7 @@
 -- The grammar: how each tree is written, one rule to a line of docs/GRAMMAR.md.
 -- `SomethingWritten .. x ts us` says: the tokens ts are x as it is written, and then the tokens us.
 -- l is the number of levels that may still be opened. A rule that opens one has 0 < l, and l - 1 inside.
-use Rattle.std.specs.Prelude.{◌≡◌, ℕ, ◌-◌, ◌<◌, Bool, true, false, List, [], ◌∷◌, ◌++◌, Some, None, Option}
+use Rattle.std.specs.Prelude.{◌≡◌, ℕ, ◌-◌, ◌<◌, Bool, true, false, List, [], ◌∷◌, ◌++◌, Some}
 use Rattle.text.specs.declared.token.Kind.{Kind}
 use Rattle.text.specs.declared.token.Kind.TheVariants as kind
 use Rattle.text.specs.declared.token.Keyword.{Keyword}

@@ -1,4 +1,6 @@
 // The grammar as trees: which tokens each tree is written with, and that the reader reads exactly it.
+#![tactic(auto)]
+
 ghost use Rattle.grammar.specs.Theorems.{ReadsTheGrammar, ListsATree, OneTree};
 
 // The reader's list is that of the tree that the tokens are written from, and there is one exactly where it reads.
