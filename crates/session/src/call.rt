@@ -30,7 +30,7 @@ pub enum Answer {
 
 impl Session {
     // Makes one call.
-    pub fn call<S: Store>(
+    pub(crate) fn call<S: Store>(
         &mut self,
         code: &[Instr],
         stack: &mut [u16],
@@ -58,7 +58,7 @@ impl Session {
 
     // Makes the calls one after another, and puts their answers at the front of the places for them. Where there are too
     // few places it makes none, and nothing changes.
-    pub fn play<S: Store>(
+    pub(crate) fn play<S: Store>(
         &mut self,
         code: &[Instr],
         stack: &mut [u16],

@@ -38,7 +38,7 @@ fn once<S: Store>(
 }
 
 // Starts and resumes once. The stack words are all zero afterwards, on every way out.
-pub fn single<S: Store>(
+pub(crate) fn single<S: Store>(
     cells: u16,
     depth: u16,
     code: &[Instr],

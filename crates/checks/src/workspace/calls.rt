@@ -7,9 +7,8 @@ ghost use Rattle.checks.specs.Tables.{empty};
 ghost use Rattle.checks.specs.Names.{table_from};
 ghost use Rattle.checks.specs.Entered.{row_as};
 ghost use Rattle.checks.specs.Tabled.{table_as};
-ghost use Rattle.checks.specs.Works.{verdict, holds, nodes_of, nothing, Done};
+ghost use Rattle.checks.specs.Works.{verdict, holds, nodes_of, nothing};
 
-use crate::arms::count_arms;
 use crate::entry::NameEntry;
 use crate::fault::CheckFault;
 use crate::names::names;
@@ -17,7 +16,6 @@ use crate::sizes::sizes;
 use crate::table::NameTable;
 use crate::types::types;
 use crate::workspace::Workspace;
-use crate::write::write;
 use std::alloc::{AllocError, Global};
 use syntax::node::Node;
 use text::token::Kind;
@@ -78,28 +76,5 @@ impl Workspace {
         ensures { entries_of result.now ≡ nodes_of self.now }
     {
         self.syntax.nodes()
-    }
-
-    // Checks a source: the number of its cells. What it became takes the place of the last one.
-    pub fn check(&mut self, source: &[u8]) -> Result<u16, CheckFault>
-        ensures { Done source.now self.new result }
-    {
-        self.items.clear();
-        self.table.clear();
-        self.syntax.read(source)?;
-        let nodes = self.syntax.nodes();
-        if let Some(f) = judge(nodes, &mut self.table, &mut self.kinds) {
-            self.table.clear();
-            return Err(f);
-        }
-        count_arms(nodes, &mut self.opened, &mut self.arms);
-        write(
-            nodes,
-            &self.table,
-            &mut self.kinds,
-            &mut self.arms,
-            &mut self.items,
-        );
-        Ok(self.table.cells() as u16)
     }
 }

@@ -39,7 +39,7 @@ fn misfit<S: Store>(
 
 impl Session {
     // A session at instruction 0 with an empty stack.
-    pub fn start<S: Store>(
+    pub(crate) fn start<S: Store>(
         cells: u16,
         depth: u16,
         code: &[Instr],
@@ -65,21 +65,21 @@ impl Session {
     }
 
     // Instruction, height, steps, cell writes, and the ending once there is one.
-    pub fn report(&self) -> Vm
+    pub(crate) fn report(&self) -> Vm
         ensures { result ≡ self.now.vm }
     {
         self.vm
     }
 
     // The word of a cell of the store.
-    pub fn look<S: Store>(&self, store: &S, cell: u16) -> Result<u16, StoreFault>
+    pub(crate) fn look<S: Store>(&self, store: &S, cell: u16) -> Result<u16, StoreFault>
         ensures { told refusal_of result ≡ read_of (S.Store.words store.now) cell }
     {
         store.read(cell)
     }
 
     // Makes `limit` steps, fewer only if the run ends or 4,000,000,000 in all are reached.
-    pub fn resume<S: Store>(
+    pub(crate) fn resume<S: Store>(
         &mut self,
         code: &[Instr],
         stack: &mut [u16],
