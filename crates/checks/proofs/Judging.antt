@@ -1,5 +1,5 @@
 -- The stages one after the other. Assumes nothing.
-use Rattle.std.proofs.Common.{◌≡◌, ℕ, ◌≤◌, List, [], Some, None, Ok, Err, Option, Result, sym, refl, ap, ◌∙◌}
+use Rattle.std.proofs.Common.{◌≡◌, ℕ, ◌≤◌, List, [], Some, None, Ok, Err, Option, sym, ap, ◌∙◌}
 use Rattle.words.specs.declared.refusal.Refusal.{Refusal}
 use Rattle.words.specs.Refusals.{then}
 use Rattle.syntax.specs.Entries.{Entry}
@@ -12,7 +12,7 @@ use Rattle.checks.specs.Types.{type_faults}
 use Rattle.checks.specs.Sizes.{size_faults}
 use Rattle.checks.specs.Writing.{counted, writes, typed_list}
 use Rattle.checks.specs.Emissions.{Narrow}
-use Rattle.checks.specs.Works.{Checked, earlier, verdict, answered, outcome, judged, checked}
+use Rattle.checks.specs.Works.{earlier, verdict, answered, outcome, judged, checked}
 use Rattle.checks.proofs.Laying.{some_none}
 use Rattle.checks.proofs.Narrowing.{least_none, narrow_list, total_list}
 

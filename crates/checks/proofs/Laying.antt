@@ -1,16 +1,14 @@
 -- The table of names lies in its cells without gaps, and each name stands once. Assumes nothing.
-use Rattle.std.proofs.Common.{◌≡◌, ℕ, zero, suc, ◌+◌, ◌<◌, ◌≤◌, Bool, true, false, cond, ltb, ◌⊎◌, List, [], ◌∷◌, ◌++◌, length, get_or, Some, None, Option, sym, refl, ap, ◌∙◌, inl, inr, ⊎_elim, arith, length-append}
-use Rattle.std.proofs.lemmas.Slice.Eq.{bytes_eq-Decides}
-use Rattle.std.proofs.lemmas.Bool.{cases_Bool, ltb-true, leb-true}
+use Rattle.std.proofs.Common.{◌≡◌, ℕ, zero, suc, ◌+◌, ◌<◌, ◌≤◌, Bool, true, false, ltb, List, [], ◌∷◌, ◌++◌, length, get_or, Some, None, Option, sym, refl, ap, ◌∙◌, ⊎_elim, arith, length-append}
+use Rattle.std.proofs.lemmas.Bool.{cases_Bool, ltb-true}
 use Rattle.std.specs.Str.{bytes_eq}
 use Rattle.text.specs.declared.token.Kind.{Kind}
 use Rattle.syntax.specs.Entries.{Entry}
 use Rattle.syntax.specs.Entries as entry
 use Rattle.checks.specs.declared.entry.Sort.{Sort}
-use Rattle.checks.specs.declared.entry.Sort.TheVariants as sort
 use Rattle.checks.specs.Tables.{Row, Table, look, nothing, is_known, extended, declare, empty}
 use Rattle.checks.specs.Names.{Declaring, decl_of, entered_by, entered, table_from}
-use Rattle.checks.specs.Layout.{nth, Sized, LaidOut}
+use Rattle.checks.specs.Layout.{Sized, LaidOut}
 use Rattle.checks.proofs.Lookups.{same, other}
 
 -- one after the other from s to n

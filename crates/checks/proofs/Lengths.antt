@@ -1,24 +1,10 @@
 -- The syntax list of a source has fewer than two entries for each byte. Assumes nothing.
-use Rattle.std.proofs.Common.{◌≡◌, ℕ, zero, suc, ◌+◌, ◌-◌, ◌*◌, ◌<◌, ◌≤◌, Bool, true, false, cond, eqb, ltb, List, [], ◌∷◌, ◌++◌, length, Some, None, Ok, Err, Option, Result, sym as turned, refl, ap, ◌∙◌, subst, arith, length-append}
-use Rattle.std.proofs.lemmas.Bool.{cond_both, ltb-false}
+use Rattle.std.proofs.Common.{◌≡◌, ℕ, suc, ◌+◌, ◌-◌, ◌≤◌, Bool, true, false, cond, eqb, List, [], ◌∷◌, ◌++◌, length, Some, None, Ok, Err, Option, arith}
 use Rattle.words.specs.declared.refusal.Refusal.{Refusal}
-use Rattle.words.specs.Refusals.{refuse, then}
-use Rattle.text.specs.declared.token.Kind.{Kind}
-use Rattle.text.specs.declared.token.Kind.TheVariants as kind
-use Rattle.text.specs.declared.token.Keyword.TheVariants as kw
 use Rattle.text.specs.declared.token.Symbol.TheVariants as sign
-use Rattle.text.specs.Lexemes.{gap_of}
-use Rattle.text.specs.Cut.{Piece, Front, Cut, onward, width_of, lexeme, cut, left, fault, settled, texted}
-use Rattle.syntax.specs.declared.node.Operator.{Operator}
-use Rattle.syntax.specs.declared.lexeme.Strength.{Strength}
-use Rattle.syntax.specs.declared.lexeme.Strength.TheVariants as strength
-use Rattle.syntax.specs.declared.lexeme.Opening.{Opening}
-use Rattle.syntax.specs.declared.lexeme.Opening.TheVariants as opening
 use Rattle.syntax.specs.Entries.{Entry}
-use Rattle.syntax.specs.Entries as entry
-use Rattle.syntax.specs.Marks.{Tok, seen, is_symbol, is_keyword, is_stop, decimal_of, spelled_of, literal_of, kind_of, shift_of, opening_of, operator_at}
-use Rattle.syntax.specs.Machine.{Goal, Use, part, into, Parsed, Onward, sym, word, put, relation, lead, primary, paren, more, compare, fields, named, bits, upto, shift, count, test, clauses, stmt, block, otherwise, arms, target, target_at, becomes, variable, stepped, declarations, typed, simple, comma, item, low, high, finish, turns, wants, right, expr, condition, parenthesis, begins, leading, related, used, stored, declared, inner, stated, stepping, limited, feed, unexpected, deeper, ending, later, program}
-use Rattle.syntax.specs.Works.{parse, syntaxed}
+use Rattle.syntax.specs.Marks.{Tok}
+use Rattle.syntax.specs.Machine.{Goal, Parsed, Onward, sym, word, put, relation, lead, primary, paren, more, compare, fields, named, bits, upto, shift, count, test, clauses, stmt, block, otherwise, arms, target, target_at, becomes, variable, stepped, declarations, typed, simple, comma, item, low, high, finish, turns, expr, parenthesis, deeper}
 
 -- the entries that goals write beyond two for each token, and the tokens that they are sure to take, two for each
 abbrev cost_for : Goal → ℕ → ℕ

@@ -1,12 +1,12 @@
 -- A search by name, and what it finds. Assumes nothing.
-use Rattle.std.proofs.Common.{◌≡◌, ℕ, zero, suc, ◌<◌, ◌≤◌, true, false, List, [], ◌∷◌, map, length, get_or, take, Some, None, Option, sym, refl, ap, ◌∙◌, ⊎_elim, arith}
+use Rattle.std.proofs.Common.{◌≡◌, ℕ, zero, suc, ◌<◌, true, false, List, [], ◌∷◌, map, get_or, take, Some, None, refl, ⊎_elim, arith}
 use Rattle.std.proofs.lemmas.Slice.Eq.{bytes_eq-Decides}
 use Rattle.std.proofs.lemmas.List.{get_or-take, length-map, length-take}
 use Rattle.std.proofs.lemmas.Bool.{cases_Bool}
 use Rattle.std.specs.Str.{bytes_eq}
 use Rattle.text.specs.Names.{name_of, First}
 use Rattle.checks.specs.declared.entry.NameEntry.{NameEntry}
-use Rattle.checks.specs.Tables.{Row, look}
+use Rattle.checks.specs.Tables.{look}
 use Rattle.checks.specs.Entered.{row_as}
 
 abbrev pub spelled : NameEntry → List ℕ

@@ -1,17 +1,17 @@
 -- In a list without faults of sizes the cells of all names lie below 4,096. Assumes nothing.
-use Rattle.std.proofs.Common.{◌≡◌, ℕ, zero, suc, ◌+◌, ◌<◌, ◌≤◌, Bool, true, false, cond, leb, ◌⊎◌, List, [], ◌∷◌, ◌++◌, Some, None, Option, sym, refl, ap, ◌∙◌, subst, inl, inr, ⊎_elim, arith}
+use Rattle.std.proofs.Common.{◌≡◌, ℕ, ◌+◌, ◌≤◌, Bool, true, false, cond, leb, ◌⊎◌, List, [], ◌∷◌, Some, None, Option, sym, refl, ap, ◌∙◌, subst, inl, inr, ⊎_elim, arith}
 use Rattle.std.proofs.lemmas.Slice.Eq.{bytes_eq-Decides}
 use Rattle.std.proofs.lemmas.Bool.{cases_Bool, leb-true}
 use Rattle.std.specs.Str.{bytes_eq}
 use Rattle.words.specs.declared.refusal.Refusal.{Refusal}
 use Rattle.syntax.specs.Entries.{Entry}
-use Rattle.checks.specs.Faults.{at, before, also, unless, sooner, least_from, least}
-use Rattle.checks.specs.Tables.{Row, Table, look, found, row_of, nothing, extended, empty}
+use Rattle.checks.specs.Faults.{at, before, also, unless, least_from, least}
+use Rattle.checks.specs.Tables.{Row, Table, look, row_of, empty}
 use Rattle.checks.specs.Names.{Declaring, decl_of, entered_by, entered, table_from}
 use Rattle.checks.specs.Sizes.{cells_at, cells_fault, range_fault, size_faults}
 use Rattle.checks.specs.Emissions.{Narrow}
 use Rattle.checks.proofs.Lookups.{same}
-use Rattle.checks.proofs.Laying.{Laid, Once, Each, Good, some_none, each_push, declared_keeps, good}
+use Rattle.checks.proofs.Laying.{Laid, Once, Each, some_none, each_push, declared_keeps, good}
 
 -- no fault decides only where there is none
 some_least : (fs : List Refusal) (f : Refusal) → least_from (Some f) fs ≡ None → ⊥

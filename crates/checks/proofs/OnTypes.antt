@@ -1,13 +1,11 @@
 -- The stage of types over the list of a tree is that of the tree. Assumes nothing.
-use Rattle.std.proofs.Common.{◌≡◌, ℕ, zero, suc, List, [], ◌∷◌, ◌++◌, Some, None, Option, sym, refl, ap, ◌∙◌}
-use Rattle.words.specs.declared.refusal.Refusal.{Refusal}
+use Rattle.std.proofs.Common.{◌≡◌, ℕ, List, [], ◌∷◌, refl, ap, ◌∙◌}
 use Rattle.text.specs.declared.token.Kind.{Kind}
-use Rattle.text.specs.declared.token.Kind.TheVariants.{Integer, Logical}
 use Rattle.syntax.specs.Entries.{Entry}
 use Rattle.syntax.specs.Entries as entry
 use Rattle.trees.specs.Trees.{Expr, number, load, index, binary, negate, lnot, convert, field, shift, Clause, test, and, Cond, only, or, Step, absent, by, Stmt, assign, assign_at, deposit, deposit_at, when, either, choose, while, repeat, count, Body, end, then, Arms, last, arm, Decl, simple, array, Program}
-use Rattle.trees.specs.Lists.{list_e, list_l, list_c, list_p, list_s, list_b, list_a, list_d, list_ds, list}
-use Rattle.checks.specs.Tables.{Table, empty}
+use Rattle.trees.specs.Lists.{list_e, list_l, list_c, list_p, list_s, list_b, list_a, list_ds, list}
+use Rattle.checks.specs.Tables.{Table}
 use Rattle.checks.specs.Names.{program_table}
 use Rattle.checks.specs.Types.{type_faults, kind_e, types_e, types_l, types_c, types_p, types_s, types_b, types_a, program_types}
 

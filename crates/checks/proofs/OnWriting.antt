@@ -1,20 +1,14 @@
 -- The typed list of the list of a tree is that of its typed tree. Assumes nothing.
-use Rattle.std.proofs.Common.{◌≡◌, ℕ, zero, suc, List, [], ◌∷◌, ◌++◌, Some, None, Option, sym, refl, ap, ◌∙◌}
-use Rattle.words.specs.declared.refusal.Refusal.{Refusal}
+use Rattle.std.proofs.Common.{◌≡◌, ℕ, zero, suc, List, [], ◌∷◌, refl, ap, ◌∙◌}
 use Rattle.text.specs.declared.token.Kind.{Kind}
-use Rattle.text.specs.declared.token.Kind.TheVariants.{Integer, Logical}
 use Rattle.syntax.specs.Entries.{Entry}
 use Rattle.syntax.specs.Entries as entry
 use Rattle.trees.specs.Trees.{Expr, number, load, index, binary, negate, lnot, convert, field, shift, Clause, test, and, Cond, only, or, Step, absent, by, Stmt, assign, assign_at, deposit, deposit_at, when, either, choose, while, repeat, count, Body, end, then, Arms, last, arm, Decl, simple, array, Program}
-use Rattle.trees.specs.Lists.{list_e, list_l, list_c, list_p, list_s, list_b, list_a, list_d, list_ds, list}
-use Rattle.checks.specs.Tables.{Table, empty}
-use Rattle.typed.specs.declared.item.Item.{Item}
-use Rattle.typed.specs.declared.item.Item.TheVariants as item
+use Rattle.trees.specs.Lists.{list_e, list_l, list_c, list_p, list_s, list_b, list_a, list_ds, list}
+use Rattle.checks.specs.Tables.{Table}
 use Rattle.typed.specs.Trees.{size}
-use Rattle.typed.specs.Instrs.{LIT, LOAD, STOR, LDX, STX, CHK, DUP, DROP, DEP}
 use Rattle.typed.specs.Lists.{items_e, items_l, items_c, items_s, items_b, items_a, items}
-use Rattle.checks.specs.Tables.{row_of}
-use Rattle.checks.specs.Names.{program_table, table_from}
+use Rattle.checks.specs.Names.{program_table}
 use Rattle.checks.specs.Types.{kind_e}
 use Rattle.checks.specs.Writing.{Counts, first, more, tallied, counted, writes, typed_list, resolve_e, resolve_l, resolve_c, resolve_p, resolve_s, resolve_b, resolve_a, resolve}
 use Rattle.checks.proofs.OnNames.{table_program}

@@ -1,10 +1,10 @@
 -- One entry more in each pass over the list. Assumes nothing.
-use Rattle.std.proofs.Common.{◌≡◌, ℕ, suc, ◌+◌, ◌<◌, ◌≤◌, List, [], ◌∷◌, ◌++◌, map, length, get_or, drop, Some, None, Option, sym, refl, ap, ◌∙◌, append_assoc, add-one, drop-cons}
+use Rattle.std.proofs.Common.{◌≡◌, ℕ, ◌+◌, ◌<◌, ◌≤◌, List, [], ◌∷◌, ◌++◌, length, get_or, drop, Some, None, Option, sym, refl, ap, ◌∙◌, append_assoc, add-one, drop-cons}
 use Rattle.std.proofs.lemmas.List.{drop_all, append-nil}
 use Rattle.words.specs.declared.refusal.Refusal.{Refusal}
 use Rattle.syntax.specs.declared.node.Node.{Node}
-use Rattle.syntax.specs.Entries.{Entry, entry_of, entries}
-use Rattle.checks.specs.Faults.{also, sooner, soonest, least_from}
+use Rattle.syntax.specs.Entries.{entry_of, entries}
+use Rattle.checks.specs.Faults.{also, soonest, least_from}
 use Rattle.checks.specs.Tables.{Table}
 use Rattle.text.specs.declared.token.Kind.{Kind}
 use Rattle.checks.specs.declared.rule.Rule.{Rule}

@@ -1,5 +1,5 @@
 -- What the code's table of names stands for.
-use Rattle.std.specs.Prelude.{ℕ, ◌+◌, List, map, take, Some, None, Option}
+use Rattle.std.specs.Prelude.{ℕ, ◌+◌, Some, None, Option}
 use Rattle.text.specs.Names.{name_of}
 use Rattle.checks.specs.declared.entry.Sort.{Sort}
 use Rattle.checks.specs.declared.entry.Sort.TheVariants as sort

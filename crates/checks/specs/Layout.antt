@@ -1,5 +1,5 @@
 -- How the names of a table lie in the cells.
-use Rattle.std.specs.Prelude.{◌≡◌, ℕ, ◌+◌, ◌<◌, ◌≤◌, List, [], ◌∷◌, length, slice_index_or}
+use Rattle.std.specs.Prelude.{◌≡◌, ℕ, ◌+◌, ◌<◌, ◌≤◌, length, slice_index_or}
 use Rattle.checks.specs.declared.entry.Sort.{Sort}
 use Rattle.checks.specs.declared.entry.Sort.TheVariants as sort
 use Rattle.checks.specs.Tables.{Row, Table, nothing}

@@ -1,5 +1,5 @@
 -- The stage of names: every name is declared once, before it is used, and has a subscript if it is an array.
-use Rattle.std.specs.Prelude.{ℕ, suc, ◌+◌, Bool, true, false, cond, List, [], ◌∷◌, length, Some, None, Option, nat_lt}
+use Rattle.std.specs.Prelude.{ℕ, ◌+◌, Bool, true, false, cond, List, [], ◌∷◌, length, Some, None, Option, nat_lt}
 use Rattle.words.specs.declared.refusal.Refusal.{Refusal}
 use Rattle.text.specs.declared.token.Kind.{Kind}
 use Rattle.syntax.specs.Entries.{Entry}

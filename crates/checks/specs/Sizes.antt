@@ -1,11 +1,11 @@
 -- The stage of sizes: fields, shifts and low bounds in their range, and at most 4,096 cells.
-use Rattle.std.specs.Prelude.{ℕ, ◌+◌, Bool, true, false, cond, ◌&&◌, List, [], ◌∷◌, Some, None, Option, ◌==◌, nat_le}
+use Rattle.std.specs.Prelude.{ℕ, ◌+◌, Bool, ◌&&◌, List, [], ◌∷◌, Some, None, Option, ◌==◌, nat_le}
 use Rattle.words.specs.declared.refusal.Refusal.{Refusal}
 use Rattle.syntax.specs.Entries.{Entry}
 use Rattle.syntax.specs.Entries as entry
 use Rattle.trees.specs.Trees.{Expr, number, load, index, binary, negate, lnot, convert, field, shift, Clause, test, and, Cond, only, or, Step, absent, by, Stmt, assign, assign_at, deposit, deposit_at, when, either, choose, while, repeat, count, Body, end, then, Arms, last, arm, Decl, simple, array, Program}
 use Rattle.checks.specs.Faults.{also, unless}
-use Rattle.checks.specs.Tables.{Row, Table, row_of}
+use Rattle.checks.specs.Tables.{Table, row_of}
 use Rattle.checks.specs.Names.{Declaring, decl_of, program_table}
 
 -- b bits from bit a of a word

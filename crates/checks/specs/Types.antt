@@ -1,5 +1,5 @@
 -- The stage of types. The types of the operands that wait for their operator lie on a stack, the last one first.
-use Rattle.std.specs.Prelude.{ℕ, Bool, true, false, cond, ◌&&◌, List, [], ◌∷◌, Some, None, Option, slice_index_or}
+use Rattle.std.specs.Prelude.{ℕ, Bool, true, false, ◌&&◌, List, [], ◌∷◌, None, Option, slice_index_or}
 use Rattle.words.specs.declared.refusal.Refusal.{Refusal}
 use Rattle.text.specs.declared.token.Kind.{Kind}
 use Rattle.text.specs.declared.token.Kind.TheVariants.{Integer, Logical}

@@ -1,6 +1,5 @@
 -- The typed list of a source that passed every stage.
-use Rattle.std.specs.Prelude.{ℕ, zero, suc, ◌+◌, List, [], ◌∷◌, ◌++◌, Some, None, Option, slice_index}
-use Rattle.arith.specs.declared.relation.Relation.{Relation}
+use Rattle.std.specs.Prelude.{ℕ, suc, List, [], ◌∷◌, ◌++◌, Some, None, Option, slice_index}
 use Rattle.arith.specs.declared.relation.Relation.TheVariants as relation
 use Rattle.arith.specs.declared.shift.Kind.{Kind as Shifting}
 use Rattle.arith.specs.declared.shift.Kind.TheVariants as shifting

@@ -1,4 +1,6 @@
 // The stages after the grammar: names, types and sizes; then the typed list of a source that passes them.
+#![tactic(auto)]
+
 mod arms;
 mod emission;
 pub mod entry;

@@ -6,7 +6,6 @@ use Rattle.words.specs.Refusals.{refuse, then}
 use Rattle.text.specs.Cut.{Piece, texted}
 use Rattle.syntax.specs.Marks.{seen}
 use Rattle.trees.specs.Trees.{Program}
-use Rattle.trees.specs.Lists.{list}
 use Rattle.grammar.specs.Grammar.{ProgramWritten}
 use Rattle.typed.specs.Instrs.{peak}
 use Rattle.typed.specs.Code.{program, depth}

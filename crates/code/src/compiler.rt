@@ -2,7 +2,6 @@
 use checks::workspace::Workspace;
 use emit::emitter::Emitter;
 
-
 #[derive(Drop)]
 pub struct Compiler {
     workspace: Workspace,

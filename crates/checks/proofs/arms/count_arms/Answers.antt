@@ -1,5 +1,5 @@
-use Rattle.std.proofs.Common.{◌≡◌, ◌+◌, ◌-◌, ◌<◌, ◌≤◌, length, sym, refl, ap, ◌∙◌, arith}
-use Rattle.checks.specs.Writing.{Counts, first}
+use Rattle.std.proofs.Common.{◌≡◌, ◌+◌, ◌-◌, ◌<◌, length, refl, ap, ◌∙◌, arith}
+use Rattle.checks.specs.Writing.{Counts}
 use Rattle.checks.specs.Stacks.{tops}
 use Rattle.checks.specs.Emissions.{counts}
 use Rattle.checks.proofs.Counting.{first_counted, counted_more, counted_none}

@@ -5,7 +5,6 @@ use Rattle.checks.proofs.OnWriting.{typed_program}
 use Rattle.checks.specs.Tables.{empty}
 use Rattle.checks.specs.Names.{table_from}
 use Rattle.checks.proofs.Laying.{laid_out, good}
-use Rattle.checks.proofs.Narrowing.{narrow_list, total_list}
 use Rattle.checks.proofs.laws.check_stands.Goals as goal
 
 pub returns : goal.returns

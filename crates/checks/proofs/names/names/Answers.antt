@@ -11,7 +11,7 @@ loop-n-init c = rw c.clear.ensures (refl, refl)
 pub loop-n-preserved : goal.loop-n-preserved
 loop-n-preserved c =
     names_more c.args.nodes.now c.loop-n.n-index (option_map refusal_of c.loop-n.best) (table_as c.loop-n.table) _ _ c.loop-n.invariant _ _ _ _
-    c.loop-n-test.true c.name-fault.ensures.fault c.soonest-best.ensures c.name-fault.ensures.table
+    c.loop-n-test.true c.name_fault.ensures.fault c.soonest-best.ensures c.name_fault.ensures.table
 
 pub returns : goal.returns
 returns c =

@@ -11,7 +11,7 @@ loop-n-init c = refl
 pub loop-n-preserved : goal.loop-n-preserved
 loop-n-preserved c =
     sizes_more c.args.nodes.now c.loop-n.n-index (option_map refusal_of c.loop-n.best) (table_as c.args.table.now) _ c.loop-n.invariant _ _ _ _ _
-    c.loop-n-test.true c.cells-fault.ensures c.soonest-first.ensures c.range-fault.ensures c.soonest-best.ensures
+    c.loop-n-test.true c.cells_fault.ensures c.soonest-first.ensures c.range_fault.ensures c.soonest-best.ensures
 
 pub returns : goal.returns
 returns c = sizes_all c.args.nodes.now c.loop-n.n-index (option_map refusal_of c.loop-n.best) (table_as c.args.table.now) _ c.loop-n.invariant c.loop-n-test.false

@@ -1,4 +1,4 @@
-use Rattle.std.proofs.Common.{◌≡◌, sym, refl, ap, ◌∙◌, arith, rules}
+use Rattle.std.proofs.Common.{refl, ◌∙◌, arith, rules}
 use Rattle.std.specs.Option.{option_map}
 use Rattle.checks.specs.Faults.{refusal_of}
 use Rattle.checks.specs.Stacks.{tops}
@@ -12,7 +12,7 @@ loop-n-init c = (rw c.clear.ensures.tops, omega (arith, c.clear.ensures.len), re
 pub loop-n-preserved : goal.loop-n-preserved
 loop-n-preserved c = (
   types_more c.args.nodes.now c.loop-n.n-index (option_map refusal_of c.loop-n.best) (table_as c.args.table.now) (tops c.loop-n.stack) _ c.loop-n.invariant.0 _ _ _ _ _
-      c.loop-n-test.true c.rule-of-rule.ensures c.clash.ensures c.soonest-best.ensures c.follow.ensures.tops,
+      c.loop-n-test.true c.rule_of-rule.ensures c.clash.ensures c.soonest-best.ensures c.follow.ensures.tops,
   omega (arith, c.follow.ensures.len, c.loop-n.invariant.1),
   c.follow.ensures.cap ∙ c.loop-n.invariant.2,
 )

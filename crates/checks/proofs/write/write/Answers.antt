@@ -1,4 +1,4 @@
-use Rattle.std.proofs.Common.{◌≡◌, vec_items, sym, refl, ap, ◌∙◌, arith}
+use Rattle.std.proofs.Common.{vec_items, refl, ◌∙◌, arith}
 use Rattle.checks.specs.Stacks.{tops}
 use Rattle.checks.specs.Tabled.{table_as}
 use Rattle.checks.proofs.Passes.{writes_more, writes_all}
@@ -11,8 +11,8 @@ loop-n-init c =
 pub loop-n-preserved : goal.loop-n-preserved
 loop-n-preserved c =
     let l = c.loop-n in (
-      writes_more c.args.nodes.now l.n-index (vec_items l.out) (table_as c.args.table.now) (tops l.kinds) (tops l.arms) _ l.invariant.0 _ c.rule-of.result _ _ _ _
-          c.loop-n-test.true (rw (← c.peek-left.ensures, ← c.peek-next.ensures) c.emission-of.ensures) c.append.ensures.items c.rule-of.ensures c.follow.ensures.tops c.spend.ensures.tops,
+      writes_more c.args.nodes.now l.n-index (vec_items l.out) (table_as c.args.table.now) (tops l.kinds) (tops l.arms) _ l.invariant.0 _ c.rule_of.result _ _ _ _
+          c.loop-n-test.true (rw (← c.peek-left.ensures, ← c.peek-next.ensures) c.emission_of.ensures) c.append.ensures.items c.rule_of.ensures c.follow.ensures.tops c.spend.ensures.tops,
       omega (arith, c.follow.ensures.len, l.invariant.1),
       omega (arith, c.append.ensures.len, l.invariant.2),
       c.follow.ensures.cap ∙ l.invariant.3,

@@ -1,4 +1,4 @@
-use Rattle.std.proofs.Common.{◌≡◌, ◌-◌, ◌<◌, arith}
+use Rattle.std.proofs.Common.{◌≡◌, ◌-◌, arith}
 use Rattle.checks.proofs.Lookups.{get_some, get_none}
 use Rattle.checks.proofs.table.NameTable.get.Goals as goal
 

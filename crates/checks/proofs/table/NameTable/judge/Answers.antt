@@ -6,10 +6,10 @@ use Rattle.checks.proofs.table.NameTable.judge.Goals as goal
 pub returns-in-None : goal.returns-in-None
 returns-in-None c = unknown (table_as c.args.self.now) (name_of c.args.name) c.args.sort c.args.place c.in-None.ensures
 
-pub returns-then-is-sort : goal.returns-then-is-sort
-returns-then-is-sort c =
-    fit (table_as c.args.self.now) (name_of c.args.name) c.args.sort c.args.place _ _ c.in-Some.ensures c.is-sort.ensures c.if-is-sort.true
+pub returns-then-is_sort : goal.returns-then-is_sort
+returns-then-is_sort c =
+    fit (table_as c.args.self.now) (name_of c.args.name) c.args.sort c.args.place _ _ c.in-Some.ensures c.is_sort.ensures c.if-is_sort.true
 
-pub returns-else-is-sort : goal.returns-else-is-sort
-returns-else-is-sort c =
-    unfit (table_as c.args.self.now) (name_of c.args.name) c.args.sort c.args.place _ _ c.in-Some.ensures c.is-sort.ensures c.if-is-sort.false
+pub returns-else-is_sort : goal.returns-else-is_sort
+returns-else-is_sort c =
+    unfit (table_as c.args.self.now) (name_of c.args.name) c.args.sort c.args.place _ _ c.in-Some.ensures c.is_sort.ensures c.if-is_sort.false

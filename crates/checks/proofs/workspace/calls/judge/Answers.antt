@@ -11,7 +11,7 @@ returns-in-Some c =
 pub returns-in-Some-types : goal.returns-in-Some-types
 returns-in-Some-types c =
     record {
-      fault = by_types (entries c.args.nodes.now) (table_as c.names.new.table) _ c.in-default.ensures.fault c.names.ensures.table c.in-Some-types.ensures.fault;
+      fault = by_types (entries c.args.nodes.now) (table_as c.names.new.table) _ c.in_default.ensures.fault c.names.ensures.table c.in-Some-types.ensures.fault;
       table = c.names.ensures.table;
       cap = c.types.ensures.cap;
     }
@@ -19,7 +19,7 @@ returns-in-Some-types c =
 pub returns : goal.returns
 returns c =
     record {
-      fault = by_sizes (entries c.args.nodes.now) (table_as c.names.new.table) _ c.in-default.ensures.fault c.names.ensures.table c.in-default-types.ensures.fault c.sizes.ensures;
+      fault = by_sizes (entries c.args.nodes.now) (table_as c.names.new.table) _ c.in_default.ensures.fault c.names.ensures.table c.in_default-types.ensures.fault c.sizes.ensures;
       table = c.names.ensures.table;
       cap = c.types.ensures.cap;
     }
