@@ -1,6 +1,6 @@
 -- The lexical grammar: what has the form of a token, whatever its size, and what spells a token.
 use Rattle.std.specs.Prelude.{◌≡◌, ℕ, ◌<◌, ◌≤◌, true, ◌⊎◌, List, [], ◌∷◌, ◌++◌, length, drop}
-use Rattle.std.specs.List.{AllByRecursion as All}
+use Rattle.std.specs.List.{AllByRecursion}
 use Rattle.text.specs.declared.token.Kind.TheVariants.{Integer, Logical}
 use Rattle.text.specs.declared.token.Symbol.{Symbol}
 use Rattle.text.specs.declared.scan.Class.{Class}
@@ -10,7 +10,7 @@ use Rattle.text.specs.Cut.{Piece, word, number, symbol}
 
 -- every byte is of the class
 abbrev pub AllOf : Class → List ℕ → Type 0
-AllOf k bs = All (λ b. passes k b ≡ true) bs
+AllOf k bs = AllByRecursion (λ b. passes k b ≡ true) bs
 
 -- a capital letter, then capitals, digits and apostrophes
 abbrev pub WordForm : List ℕ → Type 0
