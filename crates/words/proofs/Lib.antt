@@ -1,3 +1,3 @@
 mod Chosen
 pub mod Pushes
-mod Tables
+pub mod Tables

@@ -1,13 +1,23 @@
--- A table by index.
-use Rattle.std.proofs.Common.{◌≡◌, ℕ, zero, suc, ◌<◌, ◌≤◌, List, [], ◌∷◌, length, get_or, Some, None, refl, arith}
-use Rattle.words.specs.Rows.{nth}
+-- Operands by the number of an instruction, and by the instruction.
+use Rattle.std.specs.Prelude.{◌≡◌, ℕ, zero, suc, List, [], ◌∷◌, Some, None, slice_get, refl}
+use Rattle.std.specs.Option.{option_map}
+use Rattle.std.proofs.Common.{ap, ◌∙◌}
+use Rattle.std.proofs.lemmas.Option.{slice_get-map}
+use Rattle.words.specs.declared.op.Op.{Op}
+use Rattle.words.specs.Ops.{ops, named_by}
+use Rattle.words.specs.Rows.{nth, named, operands_of}
 
-pub nth_in : (xs : List ℕ) (i d : ℕ) → i < length xs → Some (get_or xs i d) ≡ nth xs i
-nth_in [] i d h = absurd (omega arith)
-nth_in (x ∷ xs) zero d h = refl
-nth_in (x ∷ xs) (suc i) d h = nth_in xs i d (omega arith)
+pub nth_get : (xs : List ℕ) (n : ℕ) → nth xs n ≡ slice_get xs n
+nth_get [] n = refl
+nth_get (x ∷ xs) zero = refl
+nth_get (x ∷ xs) (suc n) = nth_get xs n
 
-pub nth_past : (xs : List ℕ) (i : ℕ) → length xs ≤ i → None ≡ nth xs i
-nth_past [] i h = refl
-nth_past (x ∷ xs) zero h = absurd (omega arith)
-nth_past (x ∷ xs) (suc i) h = nth_past xs i (omega arith)
+pub operands_by_op : (n : ℕ) → operands_of n ≡ option_map named_by (slice_get ops n)
+unfolding operands_of
+operands_by_op n = nth_get named n ∙ slice_get-map named_by ops n
+
+pub operands_at : (n : ℕ) (o : Op) → slice_get ops n ≡ Some o → operands_of n ≡ Some (named_by o)
+operands_at n o e = operands_by_op n ∙ ap (option_map named_by) e
+
+pub operands_past : (n : ℕ) → slice_get ops n ≡ None → operands_of n ≡ None
+operands_past n e = operands_by_op n ∙ ap (option_map named_by) e

@@ -1,6 +1,7 @@
 pub mod Cells
 pub mod Halves
 pub mod Lists
+pub mod Ops
 pub mod Refusals
 pub mod Rows
 pub mod Stores

@@ -3,5 +3,6 @@
 
 pub mod instr;
 pub mod list;
+pub mod op;
 pub mod refusal;
 pub mod store;

@@ -1,0 +1,81 @@
+-- The instructions.
+use Rattle.std.specs.Prelude.{ℕ, List, [], ◌∷◌}
+use Rattle.words.specs.declared.op.Op.{Op}
+use Rattle.words.specs.declared.op.Op.TheVariants.{Halt, Lit, Load, Stor, Ldx, Stx, Chk, Dup, Drop, Add, Sub, Mul, Div, Rem, Neg, Ladd, Lsub, Lmul, Ldiv, Lrem, Cmp, Lcmp, And, Or, Xor, Not, Fld, Dep, Shf, Br, Bre, Case, For, Next}
+
+-- in the order of their numbers, from 0
+abbrev pub ops : List Op
+ops = Halt ∷ Lit ∷ Load ∷ Stor ∷ Ldx ∷ Stx ∷ Chk ∷ Dup ∷ Drop ∷ Add ∷ Sub ∷ Mul ∷ Div ∷ Rem ∷ Neg ∷ Ladd ∷ Lsub ∷ Lmul ∷ Ldiv ∷ Lrem ∷ Cmp ∷ Lcmp ∷ And ∷ Or ∷ Xor ∷ Not ∷ Fld ∷ Dep ∷ Shf ∷ Br ∷ Bre ∷ Case ∷ For ∷ Next ∷ []
+
+abbrev pub number_of : Op → ℕ
+number_of Halt = 0
+number_of Lit = 1
+number_of Load = 2
+number_of Stor = 3
+number_of Ldx = 4
+number_of Stx = 5
+number_of Chk = 6
+number_of Dup = 7
+number_of Drop = 8
+number_of Add = 9
+number_of Sub = 10
+number_of Mul = 11
+number_of Div = 12
+number_of Rem = 13
+number_of Neg = 14
+number_of Ladd = 15
+number_of Lsub = 16
+number_of Lmul = 17
+number_of Ldiv = 18
+number_of Lrem = 19
+number_of Cmp = 20
+number_of Lcmp = 21
+number_of And = 22
+number_of Or = 23
+number_of Xor = 24
+number_of Not = 25
+number_of Fld = 26
+number_of Dep = 27
+number_of Shf = 28
+number_of Br = 29
+number_of Bre = 30
+number_of Case = 31
+number_of For = 32
+number_of Next = 33
+
+-- how many operands it names: none, `a` alone, or `a` and `b`
+abbrev pub named_by : Op → ℕ
+named_by Halt = 0
+named_by Lit = 1
+named_by Load = 1
+named_by Stor = 1
+named_by Ldx = 2
+named_by Stx = 2
+named_by Chk = 1
+named_by Dup = 0
+named_by Drop = 1
+named_by Add = 0
+named_by Sub = 0
+named_by Mul = 0
+named_by Div = 0
+named_by Rem = 0
+named_by Neg = 0
+named_by Ladd = 0
+named_by Lsub = 0
+named_by Lmul = 0
+named_by Ldiv = 0
+named_by Lrem = 0
+named_by Cmp = 1
+named_by Lcmp = 1
+named_by And = 0
+named_by Or = 0
+named_by Xor = 0
+named_by Not = 0
+named_by Fld = 2
+named_by Dep = 2
+named_by Shf = 2
+named_by Br = 1
+named_by Bre = 1
+named_by Case = 2
+named_by For = 2
+named_by Next = 2
