@@ -7,8 +7,8 @@ use Rattle.machine.specs.declared.ending.Ending.TheVariants.{TooHigh, Outside, M
 use Rattle.machine.specs.declared.vm.Move.{Move}
 use Rattle.machine.specs.declared.vm.Kind.{Kind}
 use Rattle.machine.specs.declared.vm.Kind.TheVariants.{Goes, Pushes, Writes}
-use Rattle.machine.specs.declared.op.Op.{Op}
-use Rattle.machine.specs.declared.op.Op.TheVariants.{Halt, Lit, Load, Stor, Ldx, Stx, Chk, Dup, Drop, Add, Sub, Mul, Div, Rem, Neg, Ladd, Lsub, Lmul, Ldiv, Lrem, Cmp, Lcmp, And, Or, Xor, Not, Fld, Dep, Shf, Br, Bre, Case, For, Next}
+use Rattle.words.specs.declared.op.Op.{Op}
+use Rattle.words.specs.declared.op.Op.TheVariants.{Halt, Lit, Load, Stor, Ldx, Stx, Chk, Dup, Drop, Add, Sub, Mul, Div, Rem, Neg, Ladd, Lsub, Lmul, Ldiv, Lrem, Cmp, Lcmp, And, Or, Xor, Not, Fld, Dep, Shf, Br, Bre, Case, For, Next}
 use Rattle.machine.specs.Table.{decoded, then, fine, wants, readied, act, row, moved}
 use Rattle.machine.specs.Machine.{State, made, made_by, goes}
 use Rattle.machine.specs.Stacks.{stack_of, hd, tl, off, stacked}

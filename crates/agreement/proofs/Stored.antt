@@ -1,7 +1,8 @@
 -- A step that does not end writes a cell exactly where its instruction is one of those that do.
-use Rattle.std.proofs.Common.{◌≡◌, ℕ, zero, suc, ◌+◌, ◌-◌, Bool, true, false, cond, ltb, leb, List, [], ◌∷◌, length, get_or, is_some, Some, None, Ok, Err, Option, Result, sym, refl, ap, ◌∙◌, subst, arith}
+use Rattle.std.proofs.Common.{◌≡◌, ℕ, zero, suc, ◌+◌, ◌-◌, Bool, true, false, cond, ltb, leb, List, [], ◌∷◌, length, get_or, slice_get, is_some, Some, None, Ok, Err, Option, Result, sym, refl, ap, ◌∙◌, subst, arith}
 use Rattle.arith.specs.Integers.{sum, subscript, chosen, turns}
 use Rattle.words.specs.declared.instr.Instr.{Instr}
+use Rattle.words.specs.Ops.{ops}
 use Rattle.typed.specs.Trees.{Body}
 use Rattle.typed.specs.Code.{program, depth}
 use Rattle.machine.specs.declared.ending.Ending.{Ending}
@@ -9,9 +10,9 @@ use Rattle.machine.specs.declared.ending.Ending.TheVariants.{Outside, Missing, B
 use Rattle.machine.specs.declared.vm.Move.{Move}
 use Rattle.machine.specs.declared.vm.Kind.{Kind}
 use Rattle.machine.specs.declared.vm.Kind.TheVariants.{Goes, Pushes, Writes}
-use Rattle.machine.specs.declared.op.Op.{Op}
-use Rattle.machine.specs.declared.op.Op.TheVariants.{Halt, Lit, Load, Stor, Ldx, Stx, Chk, Dup, Drop, Add, Sub, Mul, Div, Rem, Neg, Ladd, Lsub, Lmul, Ldiv, Lrem, Cmp, Lcmp, And, Or, Xor, Not, Fld, Dep, Shf, Br, Bre, Case, For, Next}
-use Rattle.machine.specs.Table.{ops, nth, decoded, then, fine, wants, stopped, cell_of, push, act, row, moved, On, Write as Puts}
+use Rattle.words.specs.declared.op.Op.{Op}
+use Rattle.words.specs.declared.op.Op.TheVariants.{Halt, Lit, Load, Stor, Ldx, Stx, Chk, Dup, Drop, Add, Sub, Mul, Div, Rem, Neg, Ladd, Lsub, Lmul, Ldiv, Lrem, Cmp, Lcmp, And, Or, Xor, Not, Fld, Dep, Shf, Br, Bre, Case, For, Next}
+use Rattle.machine.specs.Table.{known, decoded, then, fine, wants, stopped, cell_of, push, act, row, moved, On, Write as Puts}
 use Rattle.machine.specs.Machine.{State, made, made_by, goes, counted, settled, stepped, step, run}
 use Rattle.meaning.specs.Effects.{Store}
 use Rattle.agreement.specs.Agreement.{after}
@@ -121,7 +122,7 @@ Marked n (o ∷ os) = (stores o ≡ storing n) × Marked (suc n) os
 marked : Marked 0 ops
 marked = (refl, (refl, (refl, (refl, (refl, (refl, (refl, (refl, (refl, (refl, (refl, (refl, (refl, (refl, (refl, (refl, (refl, (refl, (refl, (refl, (refl, (refl, (refl, (refl, (refl, (refl, (refl, (refl, (refl, (refl, (refl, (refl, (refl, (refl, tt))))))))))))))))))))))))))))))))))
 
-kinded_nth : (os : List Op) (n k j : ℕ) → Marked k os → k + n ≡ j → (f : Op → Result Move Ending) → ((o : Op) → Kinded (stores o) (f o)) → Kinded (storing j) (then (nth os n) f)
+kinded_nth : (os : List Op) (n k j : ℕ) → Marked k os → k + n ≡ j → (f : Op → Result Move Ending) → ((o : Op) → Kinded (stores o) (f o)) → Kinded (storing j) (then (known (slice_get os n)) f)
 kinded_nth [] n k j h e f g = tt
 kinded_nth (o ∷ os) zero k j h e f g =
     let q : k ≡ j = omega arith in

@@ -1,12 +1,13 @@
 -- What a step does, whatever the instruction.
 use Rattle.std.specs.Prelude.{◌≡◌, ℕ, zero, suc, ◌+◌, ◌-◌, ◌<◌, ◌≤◌, true, ◌⊎◌, List, [], ◌∷◌, length, Some, None, Option, slice_index, slice_set}
+use Rattle.words.specs.Ops.{ops}
 use Rattle.words.specs.Rows.{operands_of}
 use Rattle.words.specs.declared.instr.Instr.{Instr}
+use Rattle.words.specs.declared.op.Op.{Op}
 use Rattle.machine.specs.declared.ending.Ending.{Ending}
 use Rattle.machine.specs.declared.ending.Ending.TheVariants.{Outside}
-use Rattle.machine.specs.declared.op.Op.{Op}
 use Rattle.machine.specs.declared.vm.Move.{Move}
-use Rattle.machine.specs.Table.{ops, fine}
+use Rattle.machine.specs.Table.{fine}
 use Rattle.machine.specs.Machine.{State, made, step, run}
 use Rattle.machine.specs.Stacks.{hd, tl, stacked, Shows}
 

@@ -1,16 +1,24 @@
 // What one instruction does, worked out without changing anything.
 ghost use Rattle.std.specs.Prelude.{◌≡◌, ◌<◌, ◌≤◌, length};
-ghost use Rattle.machine.specs.Table.{moved};
+ghost use Rattle.machine.specs.Table.{decoded, moved};
 
 use super::bitwise::*;
 use super::control::*;
 use super::ending::Ending;
 use super::memory::*;
 use super::numeric::*;
-use super::op::{Op, decode};
 use super::vm::Move;
 use words::instr::Instr;
+use words::op::Op;
 use words::store::Store;
+
+// The instruction of a number.
+#[tactic(auto, unfolding(crate::specs::Table::decoded))]
+fn decode(number: u16) -> Result<Op, Ending>
+    ensures { result ≡ decoded number }
+{
+    Ok(Op::try_from(number)?)
+}
 
 pub fn act<S: Store>(
     i: Instr,

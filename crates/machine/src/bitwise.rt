@@ -1,10 +1,9 @@
 // Comparisons, and words bit by bit.
 ghost use Rattle.std.specs.Prelude.{◌≡◌, ℕ, ◌<◌, ◌≤◌, List, length};
-ghost use Rattle.machine.specs.declared.op.Op.TheVariants.{Cmp, Lcmp, And, Or, Xor, Not, Fld, Dep, Shf};
+ghost use Rattle.words.specs.declared.op.Op.TheVariants.{Cmp, Lcmp, And, Or, Xor, Not, Fld, Dep, Shf};
 ghost use Rattle.machine.specs.Table.{row};
 
 use super::ending::Ending;
-use super::op::Op;
 use super::parts::{next, push, ready, top};
 use super::vm::Move;
 use arith::bits;
@@ -12,6 +11,7 @@ use arith::field::Field;
 use arith::relation::{Relation, compare, compare_logical};
 use arith::shift::Shift;
 use words::instr::Instr;
+use words::op::Op;
 
 pub fn do_cmp(i: Instr, height: u16, stack: &[u16]) -> Result<Move, Ending>
     requires { height ≤ length stack.now }

@@ -1,16 +1,16 @@
 // Branches and loops.
 ghost use Rattle.std.specs.Prelude.{◌≡◌, ℕ, ◌<◌, ◌≤◌, List, length};
-ghost use Rattle.machine.specs.declared.op.Op.TheVariants.{Br, Bre, Case, For, Next};
+ghost use Rattle.words.specs.declared.op.Op.TheVariants.{Br, Bre, Case, For, Next};
 ghost use Rattle.machine.specs.Table.{row};
 
 use super::ending::Ending;
-use super::op::Op;
 use super::parts::{cell, next, on, put, ready, top};
 use super::vm::Move;
 use arith::integer;
 use arith::integer::{chosen, turns};
 use arith::logical::odd;
 use words::instr::Instr;
+use words::op::Op;
 use words::store::Store;
 
 pub fn do_br(i: Instr, height: u16) -> Result<Move, Ending>

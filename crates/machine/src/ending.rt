@@ -1,9 +1,10 @@
 // How a run ends.
 ghost use Rattle.std.specs.Prelude.{◌≡◌};
-ghost use Rattle.machine.specs.declared.ending.Ending.TheVariants.{Stopped};
+ghost use Rattle.machine.specs.declared.ending.Ending.TheVariants.{Stopped, BadOperand};
 ghost use Rattle.machine.specs.Endings.{number_of};
 
 use arith::stop::Stop;
+use words::op::UnknownOp;
 
 #[derive(Clone, Copy, PartialEq, Debug)]
 pub enum Ending {
@@ -40,5 +41,13 @@ impl From<Stop> for Ending {
 
     fn from(e: Stop) -> Ending {
         Ending::Stopped(e)
+    }
+}
+
+impl From<UnknownOp> for Ending {
+    ghost from_gives = { λ _ r. r ≡ BadOperand };
+
+    fn from(_e: UnknownOp) -> Ending {
+        Ending::BadOperand
     }
 }

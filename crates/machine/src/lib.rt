@@ -8,7 +8,6 @@ pub mod ending;
 pub mod laws;
 mod memory;
 mod numeric;
-pub mod op;
 mod parts;
 pub mod run;
 pub mod step;

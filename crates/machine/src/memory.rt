@@ -1,14 +1,14 @@
 // Words on the stack and in the store.
 ghost use Rattle.std.specs.Prelude.{◌≡◌, ℕ, ◌<◌, ◌≤◌, List, length};
-ghost use Rattle.machine.specs.declared.op.Op.TheVariants.{Halt, Lit, Load, Stor, Ldx, Stx, Chk, Dup, Drop};
+ghost use Rattle.words.specs.declared.op.Op.TheVariants.{Halt, Lit, Load, Stor, Ldx, Stx, Chk, Dup, Drop};
 ghost use Rattle.machine.specs.Table.{row};
 
 use super::ending::Ending;
-use super::op::Op;
 use super::parts::{cell, next, on, push, put, ready, top};
 use super::vm::Move;
 use arith::integer::subscript;
 use words::instr::Instr;
+use words::op::Op;
 use words::store::Store;
 
 pub fn do_halt(i: Instr, height: u16) -> Result<Move, Ending>

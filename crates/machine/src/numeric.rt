@@ -1,14 +1,14 @@
 // INTEGER and LOGICAL arithmetic. The right operand is on top.
 ghost use Rattle.std.specs.Prelude.{◌≡◌, ℕ, ◌<◌, ◌≤◌, List, length};
-ghost use Rattle.machine.specs.declared.op.Op.TheVariants.{Add, Sub, Mul, Div, Rem, Neg, Ladd, Lsub, Lmul, Ldiv, Lrem};
+ghost use Rattle.words.specs.declared.op.Op.TheVariants.{Add, Sub, Mul, Div, Rem, Neg, Ladd, Lsub, Lmul, Ldiv, Lrem};
 ghost use Rattle.machine.specs.Table.{row};
 
 use super::ending::Ending;
-use super::op::Op;
 use super::parts::{next, push, ready, top};
 use super::vm::Move;
 use arith::{integer, logical};
 use words::instr::Instr;
+use words::op::Op;
 
 pub fn do_add(i: Instr, height: u16, stack: &[u16]) -> Result<Move, Ending>
     requires { height ≤ length stack.now }

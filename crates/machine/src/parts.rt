@@ -3,9 +3,9 @@ ghost use Rattle.std.specs.Prelude.{◌≡◌, ◌-◌, ◌≤◌, length, slice
 ghost use Rattle.machine.specs.Table.{fine, wants, readied, cell_of, On, Push, Write};
 
 use super::ending::Ending;
-use super::op::Op;
 use super::vm::{Kind, Move};
 use words::instr::Instr;
+use words::op::Op;
 use words::store::Store;
 
 pub fn on(pops: u16, place: u32) -> Move
