@@ -5,12 +5,11 @@ use Rattle.words.specs.declared.instr.Instr.{Instr}
 use Rattle.machine.specs.declared.ending.Ending.{Ending}
 use Rattle.machine.specs.declared.ending.Ending.TheVariants.{TooHigh, Outside, Missing, BadOperand}
 use Rattle.machine.specs.declared.vm.Move.{Move}
-use Rattle.machine.specs.declared.vm.Kind.{Kind}
-use Rattle.machine.specs.declared.vm.Kind.TheVariants.{Goes, Pushes, Writes}
+use Rattle.machine.specs.declared.vm.Move.TheVariants.{On, Push, Write as Puts}
 use Rattle.words.specs.declared.op.Op.{Op}
 use Rattle.words.specs.declared.op.Op.TheVariants.{Halt, Lit, Load, Stor, Ldx, Stx, Chk, Dup, Drop, Add, Sub, Mul, Div, Rem, Neg, Ladd, Lsub, Lmul, Ldiv, Lrem, Cmp, Lcmp, And, Or, Xor, Not, Fld, Dep, Shf, Br, Bre, Case, For, Next}
 use Rattle.machine.specs.Table.{decoded, then, fine, wants, readied, act, row, moved}
-use Rattle.machine.specs.Machine.{State, made, made_by, goes}
+use Rattle.machine.specs.Machine.{State, made, goes}
 use Rattle.machine.specs.Stacks.{stack_of, hd, tl, off, stacked}
 use Rattle.machine.proofs.Views.{length_stack_of, top_is, next_is, push_stack_of}
 use Rattle.meaning.specs.Effects.{Write, leave}
@@ -37,20 +36,20 @@ tells_cond : (s : State) (b : Bool) (v : Way) (t : State) (e : Ending) → (b �
 tells_cond s true v t e h = h refl
 tells_cond s false v t e h = tells_halt
 
-tells_made : (k : Kind) (d : ℕ) (m : Move) (s : State) → d ≤ length s.stack → Tells s (laid k d m s.vm.place (stacked s) s.cells) (made_by k d m s)
-tells_made Goes d m s l = tells_on (ap (at m.place) (sym (off_stack_of m.pops s.vm.height s.stack))) refl (omega arith) refl refl
-tells_made Pushes d m s l =
-    let h = s.vm.height - m.pops in
+tells_made : (d : ℕ) (m : Move) (s : State) → d ≤ length s.stack → Tells s (laid d m s.vm.place (stacked s) s.cells) (made d m s)
+tells_made d (On k q) s l = tells_on (ap (at q) (sym (off_stack_of k s.vm.height s.stack))) refl (omega arith) refl refl
+tells_made d (Push k w) s l =
+    let h = s.vm.height - k in
     let f : s.vm.place + 1 ≡ suc s.vm.place = omega arith in
-    rw (length_off m.pops s.vm.height s.stack)
+    rw (length_off k s.vm.height s.stack)
     (tells_cond s (ltb h d) _ _ TooHigh
-    (λ q. tells_on (rw (f, push_stack_of h m.word s.stack (omega (arith, ltb-true h d q)), off_stack_of m.pops s.vm.height s.stack)) refl (omega arith) refl (length-set s.stack h m.word)))
-tells_made Writes d m s l =
-    tells_cond s (ltb m.cell (length s.cells)) _ _ Outside
-    (λ q. tells_on (ap (at m.place) (sym (off_stack_of m.pops s.vm.height s.stack))) refl (omega arith) refl refl)
+    (λ e. tells_on (rw (f, push_stack_of h w s.stack (omega (arith, ltb-true h d e)), off_stack_of k s.vm.height s.stack)) refl (omega arith) refl (length-set s.stack h w)))
+tells_made d (Puts k c w q) s l =
+    tells_cond s (ltb c (length s.cells)) _ _ Outside
+    (λ e. tells_on (ap (at q) (sym (off_stack_of k s.vm.height s.stack))) refl (omega arith) refl refl)
 
 tells_then : (d : ℕ) (s : State) (r : Result Move Ending) → d ≤ length s.stack → Tells s (lay d s.vm.place (stacked s) s.cells r) (then r (λ m. made d m s))
-tells_then d s (Ok m) l = tells_made m.kind d m s l
+tells_then d s (Ok m) l = tells_made d m s l
 tells_then d s (Err e) l = tells_halt
 
 -- the words that an instruction looks at are the first two of the list; one that wants fewer looks at fewer

@@ -8,21 +8,20 @@ use Rattle.typed.specs.Code.{program, depth}
 use Rattle.machine.specs.declared.ending.Ending.{Ending}
 use Rattle.machine.specs.declared.ending.Ending.TheVariants.{Outside, Missing, BadOperand}
 use Rattle.machine.specs.declared.vm.Move.{Move}
-use Rattle.machine.specs.declared.vm.Kind.{Kind}
-use Rattle.machine.specs.declared.vm.Kind.TheVariants.{Goes, Pushes, Writes}
+use Rattle.machine.specs.declared.vm.Move.TheVariants.{On, Push, Write as Puts}
 use Rattle.words.specs.declared.op.Op.{Op}
 use Rattle.words.specs.declared.op.Op.TheVariants.{Halt, Lit, Load, Stor, Ldx, Stx, Chk, Dup, Drop, Add, Sub, Mul, Div, Rem, Neg, Ladd, Lsub, Lmul, Ldiv, Lrem, Cmp, Lcmp, And, Or, Xor, Not, Fld, Dep, Shf, Br, Bre, Case, For, Next}
-use Rattle.machine.specs.Table.{known, decoded, then, fine, wants, stopped, cell_of, push, act, row, moved, On, Write as Puts}
-use Rattle.machine.specs.Machine.{State, made, made_by, goes, counted, settled, stepped, step, run}
+use Rattle.machine.specs.Table.{known, decoded, then, fine, wants, stopped, cell_of, push, act, row, moved}
+use Rattle.machine.specs.Machine.{State, made, goes, counted, settled, stepped, step, run}
 use Rattle.meaning.specs.Effects.{Store}
 use Rattle.agreement.specs.Agreement.{after}
 use Rattle.agreement.specs.Sessions.{storing, writing, writes_in}
 use Rattle.agreement.proofs.Moves.{blank}
 
-abbrev writes : Kind → Bool
-writes Goes = false
-writes Pushes = false
-writes Writes = true
+abbrev writes : Move → Bool
+writes (On k q) = false
+writes (Push k w) = false
+writes (Puts k c w q) = true
 
 abbrev stores : Op → Bool
 stores Halt = false
@@ -62,7 +61,7 @@ stores Next = true
 
 -- a move writes or not, as b says
 abbrev Kinded : Bool → Result Move Ending → Type 0
-Kinded b (Ok m) = writes m.kind ≡ b
+Kinded b (Ok m) = writes m ≡ b
 Kinded b (Err e) = Unit {0}
 
 kinded_then : {X : Type 0} (b : Bool) (r : Result X Ending) (f : X → Result Move Ending) → ((x : X) → Kinded b (f x)) → Kinded b (then r f)
@@ -144,13 +143,13 @@ counts_cond : (b : Bool) (s t : State) (c : Bool) (e : Ending) → Counts b s (O
 counts_cond b s t true e h = h
 counts_cond b s t false e h = tt
 
-counts_made : (k : Kind) (d : ℕ) (m : Move) (s : State) → Counts (writes k) s (made_by k d m s)
-counts_made Goes d m s = (omega arith, refl)
-counts_made Pushes d m s = counts_cond false s _ (ltb (s.vm.height - m.pops) d) _ (omega arith, refl)
-counts_made Writes d m s = counts_cond true s _ (ltb m.cell (length s.cells)) _ (refl, refl)
+counts_made : (d : ℕ) (m : Move) (s : State) → Counts (writes m) s (made d m s)
+counts_made d (On k q) s = (omega arith, refl)
+counts_made d (Push k w) s = counts_cond false s _ (ltb (s.vm.height - k) d) _ (omega arith, refl)
+counts_made d (Puts k c w q) s = counts_cond true s _ (ltb c (length s.cells)) _ (refl, refl)
 
 counts_then : (b : Bool) (d : ℕ) (s : State) (r : Result Move Ending) → Kinded b r → Counts b s (then r (λ m. made d m s))
-counts_then b d s (Ok m) h = subst (λ (c : Bool). Counts c s (made d m s)) h (counts_made m.kind d m s)
+counts_then b d s (Ok m) h = subst (λ (c : Bool). Counts c s (made d m s)) h (counts_made d m s)
 counts_then b d s (Err e) h = tt
 
 counts_fetched : (b f : Bool) (s : State) (r : Result State Ending) → Counts b s r → Counts b s (cond f r (Err Outside))

@@ -5,10 +5,11 @@ use Rattle.words.specs.declared.instr.Instr.{Instr}
 use Rattle.machine.specs.declared.ending.Ending.{Ending}
 use Rattle.machine.specs.declared.ending.Ending.TheVariants.{Missing, BadOperand}
 use Rattle.machine.specs.declared.vm.Move.{Move}
+use Rattle.machine.specs.declared.vm.Move.TheVariants.{On, Write}
 use Rattle.words.specs.declared.op.Op.{Op}
 use Rattle.words.specs.declared.op.Op.TheVariants.{Halt, Lit, Load, Stor, Ldx, Stx, Chk, Dup, Drop, Add, Sub, Mul, Div, Rem, Neg, Ladd, Lsub, Lmul, Ldiv, Lrem, Cmp, Lcmp, And, Or, Xor, Not, Fld, Dep, Shf, Br, Bre, Case, For, Next}
 use Rattle.arith.specs.Integers.{sum, subscript, chosen, turns}
-use Rattle.machine.specs.Table.{decoded, then, fine, wants, stopped, cell_of, push, act, row, moved, On, Write}
+use Rattle.machine.specs.Table.{decoded, then, fine, wants, stopped, cell_of, push, act, row, moved}
 use Rattle.machine.specs.Machine.{pops}
 
 abbrev pops_r : Result Move Ending → ℕ

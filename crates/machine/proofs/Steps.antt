@@ -5,10 +5,9 @@ use Rattle.words.specs.declared.instr.Instr.{Instr}
 use Rattle.machine.specs.declared.ending.Ending.{Ending}
 use Rattle.machine.specs.declared.ending.Ending.TheVariants.{TooHigh, Outside}
 use Rattle.machine.specs.declared.vm.Move.{Move}
-use Rattle.machine.specs.declared.vm.Kind.{Kind}
-use Rattle.machine.specs.declared.vm.Kind.TheVariants.{Goes, Pushes, Writes}
+use Rattle.machine.specs.declared.vm.Move.TheVariants.{On, Push, Write}
 use Rattle.machine.specs.Table.{then, moved}
-use Rattle.machine.specs.Machine.{State, made, made_by, goes, counted, ended, settled, stepped, step}
+use Rattle.machine.specs.Machine.{State, made, goes, counted, ended, settled, stepped, step}
 use Rattle.machine.specs.Laws.{Stays, Wrote, Pushed}
 
 -- a move that is made has Q
@@ -42,21 +41,21 @@ record Did (d : ℕ) (s t : State) : Type 0 where
   wrote : Wrote s t
   pushed : Pushed d s t
 
-did_by : (k : Kind) (d : ℕ) (m : Move) (s : State) → Has (Did d s) (made_by k d m s)
-did_by Goes d m s = record { steps = refl; ending = refl; low = λ h. omega arith; wrote = inl (refl, refl); pushed = inl refl }
-did_by Pushes d m s =
-    has_cond (Did d s) _ (ltb (s.vm.height - m.pops) d) TooHigh
+did_by : (d : ℕ) (m : Move) (s : State) → Has (Did d s) (made d m s)
+did_by d (On k q) s = record { steps = refl; ending = refl; low = λ h. omega arith; wrote = inl (refl, refl); pushed = inl refl }
+did_by d (Push k w) s =
+    has_cond (Did d s) _ (ltb (s.vm.height - k) d) TooHigh
     (λ e.
-    let l = ltb-true (s.vm.height - m.pops) d e in
-    record { steps = refl; ending = refl; low = λ h. omega arith; wrote = inl (refl, refl); pushed = inr (s.vm.height - m.pops, m.word, l, refl, refl) })
-did_by Writes d m s =
-    has_cond (Did d s) _ (ltb m.cell (length s.cells)) Outside
+    let l = ltb-true (s.vm.height - k) d e in
+    record { steps = refl; ending = refl; low = λ h. omega arith; wrote = inl (refl, refl); pushed = inr (s.vm.height - k, w, l, refl, refl) })
+did_by d (Write k c w q) s =
+    has_cond (Did d s) _ (ltb c (length s.cells)) Outside
     (λ e.
-    let l = ltb-true m.cell (length s.cells) e in
-    record { steps = refl; ending = refl; low = λ h. omega arith; wrote = inr (m.cell, m.word, l, refl, refl); pushed = inl refl })
+    let l = ltb-true c (length s.cells) e in
+    record { steps = refl; ending = refl; low = λ h. omega arith; wrote = inr (c, w, l, refl, refl); pushed = inl refl })
 
 did_goes : (P : List Instr) (d : ℕ) (s : State) → Has (Did d s) (goes P d s)
-did_goes P d s = has_goes (Did d s) P d s (λ m. did_by m.kind d m s)
+did_goes P d s = has_goes (Did d s) P d s (λ m. did_by d m s)
 
 -- a step moves or ends
 by_settled : (Q : State → Type 0) (s : State) (r : Result State Ending) → Has Q r → ((e : Ending) → Q (ended e s)) → Q (settled r s)

@@ -4,8 +4,7 @@ use Rattle.words.specs.declared.instr.Instr.{Instr}
 use Rattle.machine.specs.declared.ending.Ending.{Ending}
 use Rattle.machine.specs.declared.ending.Ending.TheVariants.{TooHigh, Outside}
 use Rattle.machine.specs.declared.vm.Move.{Move}
-use Rattle.machine.specs.declared.vm.Kind.{Kind}
-use Rattle.machine.specs.declared.vm.Kind.TheVariants.{Goes, Pushes, Writes}
+use Rattle.machine.specs.declared.vm.Move.TheVariants.{On, Push, Write}
 use Rattle.machine.specs.declared.vm.Vm.{Vm}
 use Rattle.machine.specs.Table.{moved, then}
 
@@ -23,15 +22,11 @@ abbrev pub at : Vm → ℕ → ℕ → ℕ → Vm
 at v p h w = record { place = p; height = h; steps = v.steps; writes = w; ending = v.ending }
 
 -- A move is made. d is the depth: a push has to stay within it, and a cell that is written has to be there.
-abbrev pub made_by : Kind → ℕ → Move → State → Result State Ending
-made_by Goes d m s = Ok (state (at s.vm m.place (s.vm.height - m.pops) s.vm.writes) s.stack s.cells)
-made_by Pushes d m s =
-    cond (nat_lt (s.vm.height - m.pops) d) (Ok (state (at s.vm (s.vm.place + 1) (s.vm.height - m.pops + 1) s.vm.writes) (slice_set s.stack (s.vm.height - m.pops) m.word) s.cells)) (Err TooHigh)
-made_by Writes d m s =
-    cond (nat_lt m.cell (length s.cells)) (Ok (state (at s.vm m.place (s.vm.height - m.pops) (s.vm.writes + 1)) s.stack (slice_set s.cells m.cell m.word))) (Err Outside)
-
 abbrev pub made : ℕ → Move → State → Result State Ending
-made d m s = made_by m.kind d m s
+made d (On k q) s = Ok (state (at s.vm q (s.vm.height - k) s.vm.writes) s.stack s.cells)
+made d (Push k w) s =
+    cond (nat_lt (s.vm.height - k) d) (Ok (state (at s.vm (s.vm.place + 1) (s.vm.height - k + 1) s.vm.writes) (slice_set s.stack (s.vm.height - k) w) s.cells)) (Err TooHigh)
+made d (Write k c w q) s = cond (nat_lt c (length s.cells)) (Ok (state (at s.vm q (s.vm.height - k) (s.vm.writes + 1)) s.stack (slice_set s.cells c w))) (Err Outside)
 
 -- what the step does that is not its count: the move of the instruction, or an ending
 unfoldable pub goes : List Instr → ℕ → State → Result State Ending
@@ -78,8 +73,11 @@ abbrev pub Steps : Option Vm → Bool → State → List ℕ → List ℕ → St
 Steps None can s st σ t = (can ≡ false) × (st ≡ s.stack) × (σ ≡ s.cells)
 Steps (Some v) can s st σ t = (can ≡ true) × (state v st σ ≡ t)
 
+-- the words that a move pops
 abbrev pub pops : Move → ℕ
-pops m = m.pops
+pops (On k q) = k
+pops (Push k w) = k
+pops (Write k c w q) = k
 
 -- r, with s before and t after, is what o says
 abbrev pub Makes : {U : Type 0} → Result U Ending → State → State → Result State Ending → Type 0

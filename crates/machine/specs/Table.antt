@@ -12,7 +12,7 @@ use Rattle.words.specs.Ops.{ops}
 use Rattle.machine.specs.declared.ending.Ending.{Ending}
 use Rattle.machine.specs.declared.ending.Ending.TheVariants.{Halted, Stopped, Missing, BadOperand, Outside}
 use Rattle.machine.specs.declared.vm.Move.{Move}
-use Rattle.machine.specs.declared.vm.Kind.TheVariants.{Goes, Pushes, Writes}
+use Rattle.machine.specs.declared.vm.Move.TheVariants.{On, Push, Write}
 use Rattle.words.specs.declared.op.Op.{Op}
 use Rattle.words.specs.declared.op.Op.TheVariants.{Halt, Lit, Load, Stor, Ldx, Stx, Chk, Dup, Drop, Add, Sub, Mul, Div, Rem, Neg, Ladd, Lsub, Lmul, Ldiv, Lrem, Cmp, Lcmp, And, Or, Xor, Not, Fld, Dep, Shf, Br, Bre, Case, For, Next}
 
@@ -24,18 +24,6 @@ known None = Err BadOperand
 -- by its place in the list of instructions; over 33 there is none
 unfoldable pub decoded : ℕ → Result Op Ending
 decoded n = known (slice_get ops n)
-
--- a move: k words popped, and on to q
-abbrev pub On : ℕ → ℕ → Move
-On k q = record { kind = Goes; pops = k; word = 0; cell = 0; place = q }
-
--- k words popped, then w pushed
-abbrev pub Push : ℕ → ℕ → Move
-Push k w = record { kind = Pushes; pops = k; word = w; cell = 0; place = 0 }
-
--- k words popped, w into the cell c, and on to q
-abbrev pub Write : ℕ → ℕ → ℕ → ℕ → Move
-Write k c w q = record { kind = Writes; pops = k; word = w; cell = c; place = q }
 
 -- go on with an answer; an ending stands
 abbrev pub then : {X Y : Type 0} → Result X Ending → (X → Result Y Ending) → Result Y Ending

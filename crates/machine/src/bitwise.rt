@@ -4,7 +4,7 @@ ghost use Rattle.words.specs.declared.op.Op.TheVariants.{Cmp, Lcmp, And, Or, Xor
 ghost use Rattle.machine.specs.Table.{row};
 
 use super::ending::Ending;
-use super::parts::{next, push, ready, top};
+use super::parts::{next, ready, top};
 use super::vm::Move;
 use arith::bits;
 use arith::field::Field;
@@ -20,7 +20,10 @@ pub fn do_cmp(i: Instr, height: u16, stack: &[u16]) -> Result<Move, Ending>
     let a = i.a;
     ready(Op::Cmp, i, height)?;
     match Relation::at(a) {
-        Some(by) => Ok(push(2, compare(by, next(height, stack), top(height, stack)))),
+        Some(by) => Ok(Move::Push {
+            pops: 2,
+            word: compare(by, next(height, stack), top(height, stack)),
+        }),
         None => Err(Ending::BadOperand),
     }
 }
@@ -32,10 +35,10 @@ pub fn do_lcmp(i: Instr, height: u16, stack: &[u16]) -> Result<Move, Ending>
     let a = i.a;
     ready(Op::Lcmp, i, height)?;
     match Relation::at(a) {
-        Some(by) => Ok(push(
-            2,
-            compare_logical(by, next(height, stack), top(height, stack)),
-        )),
+        Some(by) => Ok(Move::Push {
+            pops: 2,
+            word: compare_logical(by, next(height, stack), top(height, stack)),
+        }),
         None => Err(Ending::BadOperand),
     }
 }
@@ -45,7 +48,10 @@ pub fn do_and(i: Instr, height: u16, stack: &[u16]) -> Result<Move, Ending>
     ensures { (p : ℕ) (σ : List ℕ) → result ≡ row And i.a i.b p height stack.now σ }
 {
     ready(Op::And, i, height)?;
-    Ok(push(2, bits::and(next(height, stack), top(height, stack))))
+    Ok(Move::Push {
+        pops: 2,
+        word: bits::and(next(height, stack), top(height, stack)),
+    })
 }
 
 pub fn do_or(i: Instr, height: u16, stack: &[u16]) -> Result<Move, Ending>
@@ -53,7 +59,10 @@ pub fn do_or(i: Instr, height: u16, stack: &[u16]) -> Result<Move, Ending>
     ensures { (p : ℕ) (σ : List ℕ) → result ≡ row Or i.a i.b p height stack.now σ }
 {
     ready(Op::Or, i, height)?;
-    Ok(push(2, bits::or(next(height, stack), top(height, stack))))
+    Ok(Move::Push {
+        pops: 2,
+        word: bits::or(next(height, stack), top(height, stack)),
+    })
 }
 
 pub fn do_xor(i: Instr, height: u16, stack: &[u16]) -> Result<Move, Ending>
@@ -61,7 +70,10 @@ pub fn do_xor(i: Instr, height: u16, stack: &[u16]) -> Result<Move, Ending>
     ensures { (p : ℕ) (σ : List ℕ) → result ≡ row Xor i.a i.b p height stack.now σ }
 {
     ready(Op::Xor, i, height)?;
-    Ok(push(2, bits::xor(next(height, stack), top(height, stack))))
+    Ok(Move::Push {
+        pops: 2,
+        word: bits::xor(next(height, stack), top(height, stack)),
+    })
 }
 
 pub fn do_not(i: Instr, height: u16, stack: &[u16]) -> Result<Move, Ending>
@@ -69,7 +81,10 @@ pub fn do_not(i: Instr, height: u16, stack: &[u16]) -> Result<Move, Ending>
     ensures { (p : ℕ) (σ : List ℕ) → result ≡ row Not i.a i.b p height stack.now σ }
 {
     ready(Op::Not, i, height)?;
-    Ok(push(1, bits::complement(top(height, stack))))
+    Ok(Move::Push {
+        pops: 1,
+        word: bits::complement(top(height, stack)),
+    })
 }
 
 pub fn do_fld(i: Instr, height: u16, stack: &[u16]) -> Result<Move, Ending>
@@ -80,7 +95,10 @@ pub fn do_fld(i: Instr, height: u16, stack: &[u16]) -> Result<Move, Ending>
     let b = i.b;
     ready(Op::Fld, i, height)?;
     match Field::new(a, b) {
-        Some(field) => Ok(push(1, field.extract(top(height, stack)))),
+        Some(field) => Ok(Move::Push {
+            pops: 1,
+            word: field.extract(top(height, stack)),
+        }),
         None => Err(Ending::BadOperand),
     }
 }
@@ -93,7 +111,10 @@ pub fn do_dep(i: Instr, height: u16, stack: &[u16]) -> Result<Move, Ending>
     let b = i.b;
     ready(Op::Dep, i, height)?;
     match Field::new(a, b) {
-        Some(field) => Ok(push(2, field.deposit(next(height, stack), top(height, stack)))),
+        Some(field) => Ok(Move::Push {
+            pops: 2,
+            word: field.deposit(next(height, stack), top(height, stack)),
+        }),
         None => Err(Ending::BadOperand),
     }
 }
@@ -106,7 +127,10 @@ pub fn do_shf(i: Instr, height: u16, stack: &[u16]) -> Result<Move, Ending>
     let b = i.b;
     ready(Op::Shf, i, height)?;
     match Shift::new(a, b) {
-        Some(shift) => Ok(push(1, shift.apply(top(height, stack)))),
+        Some(shift) => Ok(Move::Push {
+            pops: 1,
+            word: shift.apply(top(height, stack)),
+        }),
         None => Err(Ending::BadOperand),
     }
 }

@@ -4,7 +4,7 @@ ghost use Rattle.words.specs.declared.op.Op.TheVariants.{Br, Bre, Case, For, Nex
 ghost use Rattle.machine.specs.Table.{row};
 
 use super::ending::Ending;
-use super::parts::{cell, next, on, put, ready, top};
+use super::parts::{cell, next, ready, top};
 use super::vm::Move;
 use arith::integer;
 use arith::integer::{chosen, turns};
@@ -18,7 +18,10 @@ pub fn do_br(i: Instr, height: u16) -> Result<Move, Ending>
 {
     let a = i.a;
     ready(Op::Br, i, height)?;
-    Ok(on(0, a as u32))
+    Ok(Move::On {
+        pops: 0,
+        place: a as u32,
+    })
 }
 
 pub fn do_bre(i: Instr, place: u32, height: u16, stack: &[u16]) -> Result<Move, Ending>
@@ -28,9 +31,15 @@ pub fn do_bre(i: Instr, place: u32, height: u16, stack: &[u16]) -> Result<Move, 
     let a = i.a;
     ready(Op::Bre, i, height)?;
     if odd(top(height, stack)) {
-        return Ok(on(1, place + 1));
+        return Ok(Move::On {
+            pops: 1,
+            place: place + 1,
+        });
     }
-    Ok(on(1, a as u32))
+    Ok(Move::On {
+        pops: 1,
+        place: a as u32,
+    })
 }
 
 pub fn do_case(i: Instr, height: u16, stack: &[u16]) -> Result<Move, Ending>
@@ -41,7 +50,10 @@ pub fn do_case(i: Instr, height: u16, stack: &[u16]) -> Result<Move, Ending>
     let b = i.b;
     ready(Op::Case, i, height)?;
     let k = chosen(top(height, stack), b)?;
-    Ok(on(1, a as u32 + k as u32))
+    Ok(Move::On {
+        pops: 1,
+        place: a as u32 + k as u32,
+    })
 }
 
 pub fn do_for<S: Store>(
@@ -59,9 +71,15 @@ pub fn do_for<S: Store>(
     ready(Op::For, i, height)?;
     let w = cell(store, a as u32)?;
     if turns(w, next(height, stack), top(height, stack)) {
-        return Ok(on(0, place + 1));
+        return Ok(Move::On {
+            pops: 0,
+            place: place + 1,
+        });
     }
-    Ok(on(0, b as u32))
+    Ok(Move::On {
+        pops: 0,
+        place: b as u32,
+    })
 }
 
 pub fn do_next<S: Store>(i: Instr, height: u16, stack: &[u16], store: &S) -> Result<Move, Ending>
@@ -73,5 +91,10 @@ pub fn do_next<S: Store>(i: Instr, height: u16, stack: &[u16], store: &S) -> Res
     ready(Op::Next, i, height)?;
     let w = cell(store, a as u32)?;
     let v = integer::add(w, next(height, stack))?;
-    Ok(put(0, a as u32, v, b as u32))
+    Ok(Move::Write {
+        pops: 0,
+        cell: a as u32,
+        word: v,
+        place: b as u32,
+    })
 }

@@ -1,12 +1,13 @@
 // How a run ends.
 ghost use Rattle.std.specs.Prelude.{◌≡◌};
-ghost use Rattle.machine.specs.declared.ending.Ending.TheVariants.{Stopped, BadOperand};
+ghost use Rattle.machine.specs.declared.ending.Ending.TheVariants.{Stopped, BadOperand, Outside};
 ghost use Rattle.machine.specs.Endings.{number_of};
 
 use arith::stop::Stop;
 use words::op::UnknownOp;
+use words::store::StoreFault;
 
-#[derive(Clone, Copy, PartialEq, Debug)]
+#[derive(Clone, Copy, PartialEq, Eq, Debug)]
 pub enum Ending {
     Halted,
     // An operation on words has no answer.
@@ -21,11 +22,11 @@ pub enum Ending {
     Outside,
 }
 
-impl Ending {
-    pub fn number(&self) -> u8
-        ensures { result ≡ number_of self.now }
-    {
-        match self {
+impl From<Ending> for u8 {
+    ghost from_gives = { λ e r. r ≡ number_of e };
+
+    fn from(e: Ending) -> u8 {
+        match e {
             Ending::Halted => 0,
             Ending::Stopped(stop) => stop.number(),
             Ending::Missing => 6,
@@ -49,5 +50,13 @@ impl From<UnknownOp> for Ending {
 
     fn from(_e: UnknownOp) -> Ending {
         Ending::BadOperand
+    }
+}
+
+impl From<StoreFault> for Ending {
+    ghost from_gives = { λ _ r. r ≡ Outside };
+
+    fn from(_e: StoreFault) -> Ending {
+        Ending::Outside
     }
 }

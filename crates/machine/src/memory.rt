@@ -4,7 +4,7 @@ ghost use Rattle.words.specs.declared.op.Op.TheVariants.{Halt, Lit, Load, Stor, 
 ghost use Rattle.machine.specs.Table.{row};
 
 use super::ending::Ending;
-use super::parts::{cell, next, on, push, put, ready, top};
+use super::parts::{cell, next, ready, top};
 use super::vm::Move;
 use arith::integer::subscript;
 use words::instr::Instr;
@@ -23,7 +23,7 @@ pub fn do_lit(i: Instr, height: u16) -> Result<Move, Ending>
 {
     let a = i.a;
     ready(Op::Lit, i, height)?;
-    Ok(push(0, a))
+    Ok(Move::Push { pops: 0, word: a })
 }
 
 pub fn do_load<S: Store>(i: Instr, height: u16, store: &S) -> Result<Move, Ending>
@@ -32,7 +32,7 @@ pub fn do_load<S: Store>(i: Instr, height: u16, store: &S) -> Result<Move, Endin
     let a = i.a;
     ready(Op::Load, i, height)?;
     let w = cell(store, a as u32)?;
-    Ok(push(0, w))
+    Ok(Move::Push { pops: 0, word: w })
 }
 
 pub fn do_stor(i: Instr, place: u32, height: u16, stack: &[u16]) -> Result<Move, Ending>
@@ -41,7 +41,12 @@ pub fn do_stor(i: Instr, place: u32, height: u16, stack: &[u16]) -> Result<Move,
 {
     let a = i.a;
     ready(Op::Stor, i, height)?;
-    Ok(put(1, a as u32, top(height, stack), place + 1))
+    Ok(Move::Write {
+        pops: 1,
+        cell: a as u32,
+        word: top(height, stack),
+        place: place + 1,
+    })
 }
 
 pub fn do_ldx<S: Store>(i: Instr, height: u16, stack: &[u16], store: &S) -> Result<Move, Ending>
@@ -53,7 +58,7 @@ pub fn do_ldx<S: Store>(i: Instr, height: u16, stack: &[u16], store: &S) -> Resu
     ready(Op::Ldx, i, height)?;
     let k = subscript(top(height, stack), b)?;
     let w = cell(store, a as u32 + k as u32)?;
-    Ok(push(1, w))
+    Ok(Move::Push { pops: 1, word: w })
 }
 
 pub fn do_stx(i: Instr, place: u32, height: u16, stack: &[u16]) -> Result<Move, Ending>
@@ -64,7 +69,12 @@ pub fn do_stx(i: Instr, place: u32, height: u16, stack: &[u16]) -> Result<Move, 
     let b = i.b;
     ready(Op::Stx, i, height)?;
     let k = subscript(next(height, stack), b)?;
-    Ok(put(2, a as u32 + k as u32, top(height, stack), place + 1))
+    Ok(Move::Write {
+        pops: 2,
+        cell: a as u32 + k as u32,
+        word: top(height, stack),
+        place: place + 1,
+    })
 }
 
 pub fn do_chk(i: Instr, place: u32, height: u16, stack: &[u16]) -> Result<Move, Ending>
@@ -74,7 +84,10 @@ pub fn do_chk(i: Instr, place: u32, height: u16, stack: &[u16]) -> Result<Move, 
     let a = i.a;
     ready(Op::Chk, i, height)?;
     subscript(top(height, stack), a)?;
-    Ok(on(0, place + 1))
+    Ok(Move::On {
+        pops: 0,
+        place: place + 1,
+    })
 }
 
 pub fn do_dup(i: Instr, height: u16, stack: &[u16]) -> Result<Move, Ending>
@@ -82,7 +95,10 @@ pub fn do_dup(i: Instr, height: u16, stack: &[u16]) -> Result<Move, Ending>
     ensures { (p : ℕ) (σ : List ℕ) → result ≡ row Dup i.a i.b p height stack.now σ }
 {
     ready(Op::Dup, i, height)?;
-    Ok(push(0, top(height, stack)))
+    Ok(Move::Push {
+        pops: 0,
+        word: top(height, stack),
+    })
 }
 
 pub fn do_drop(i: Instr, place: u32, height: u16) -> Result<Move, Ending>
@@ -91,5 +107,8 @@ pub fn do_drop(i: Instr, place: u32, height: u16) -> Result<Move, Ending>
 {
     let a = i.a;
     ready(Op::Drop, i, height)?;
-    Ok(on(a, place + 1))
+    Ok(Move::On {
+        pops: a,
+        place: place + 1,
+    })
 }

@@ -4,7 +4,7 @@ ghost use Rattle.words.specs.declared.op.Op.TheVariants.{Add, Sub, Mul, Div, Rem
 ghost use Rattle.machine.specs.Table.{row};
 
 use super::ending::Ending;
-use super::parts::{next, push, ready, top};
+use super::parts::{next, ready, top};
 use super::vm::Move;
 use arith::{integer, logical};
 use words::instr::Instr;
@@ -16,7 +16,7 @@ pub fn do_add(i: Instr, height: u16, stack: &[u16]) -> Result<Move, Ending>
 {
     ready(Op::Add, i, height)?;
     let w = integer::add(next(height, stack), top(height, stack))?;
-    Ok(push(2, w))
+    Ok(Move::Push { pops: 2, word: w })
 }
 
 pub fn do_sub(i: Instr, height: u16, stack: &[u16]) -> Result<Move, Ending>
@@ -25,7 +25,7 @@ pub fn do_sub(i: Instr, height: u16, stack: &[u16]) -> Result<Move, Ending>
 {
     ready(Op::Sub, i, height)?;
     let w = integer::sub(next(height, stack), top(height, stack))?;
-    Ok(push(2, w))
+    Ok(Move::Push { pops: 2, word: w })
 }
 
 pub fn do_mul(i: Instr, height: u16, stack: &[u16]) -> Result<Move, Ending>
@@ -34,7 +34,7 @@ pub fn do_mul(i: Instr, height: u16, stack: &[u16]) -> Result<Move, Ending>
 {
     ready(Op::Mul, i, height)?;
     let w = integer::mul(next(height, stack), top(height, stack))?;
-    Ok(push(2, w))
+    Ok(Move::Push { pops: 2, word: w })
 }
 
 pub fn do_div(i: Instr, height: u16, stack: &[u16]) -> Result<Move, Ending>
@@ -43,7 +43,7 @@ pub fn do_div(i: Instr, height: u16, stack: &[u16]) -> Result<Move, Ending>
 {
     ready(Op::Div, i, height)?;
     let w = integer::div(next(height, stack), top(height, stack))?;
-    Ok(push(2, w))
+    Ok(Move::Push { pops: 2, word: w })
 }
 
 pub fn do_rem(i: Instr, height: u16, stack: &[u16]) -> Result<Move, Ending>
@@ -52,7 +52,7 @@ pub fn do_rem(i: Instr, height: u16, stack: &[u16]) -> Result<Move, Ending>
 {
     ready(Op::Rem, i, height)?;
     let w = integer::rem(next(height, stack), top(height, stack))?;
-    Ok(push(2, w))
+    Ok(Move::Push { pops: 2, word: w })
 }
 
 pub fn do_neg(i: Instr, height: u16, stack: &[u16]) -> Result<Move, Ending>
@@ -61,7 +61,7 @@ pub fn do_neg(i: Instr, height: u16, stack: &[u16]) -> Result<Move, Ending>
 {
     ready(Op::Neg, i, height)?;
     let w = integer::neg(top(height, stack))?;
-    Ok(push(1, w))
+    Ok(Move::Push { pops: 1, word: w })
 }
 
 pub fn do_ladd(i: Instr, height: u16, stack: &[u16]) -> Result<Move, Ending>
@@ -69,7 +69,10 @@ pub fn do_ladd(i: Instr, height: u16, stack: &[u16]) -> Result<Move, Ending>
     ensures { (p : ℕ) (σ : List ℕ) → result ≡ row Ladd i.a i.b p height stack.now σ }
 {
     ready(Op::Ladd, i, height)?;
-    Ok(push(2, logical::add(next(height, stack), top(height, stack))))
+    Ok(Move::Push {
+        pops: 2,
+        word: logical::add(next(height, stack), top(height, stack)),
+    })
 }
 
 pub fn do_lsub(i: Instr, height: u16, stack: &[u16]) -> Result<Move, Ending>
@@ -77,7 +80,10 @@ pub fn do_lsub(i: Instr, height: u16, stack: &[u16]) -> Result<Move, Ending>
     ensures { (p : ℕ) (σ : List ℕ) → result ≡ row Lsub i.a i.b p height stack.now σ }
 {
     ready(Op::Lsub, i, height)?;
-    Ok(push(2, logical::sub(next(height, stack), top(height, stack))))
+    Ok(Move::Push {
+        pops: 2,
+        word: logical::sub(next(height, stack), top(height, stack)),
+    })
 }
 
 pub fn do_lmul(i: Instr, height: u16, stack: &[u16]) -> Result<Move, Ending>
@@ -85,7 +91,10 @@ pub fn do_lmul(i: Instr, height: u16, stack: &[u16]) -> Result<Move, Ending>
     ensures { (p : ℕ) (σ : List ℕ) → result ≡ row Lmul i.a i.b p height stack.now σ }
 {
     ready(Op::Lmul, i, height)?;
-    Ok(push(2, logical::mul(next(height, stack), top(height, stack))))
+    Ok(Move::Push {
+        pops: 2,
+        word: logical::mul(next(height, stack), top(height, stack)),
+    })
 }
 
 pub fn do_ldiv(i: Instr, height: u16, stack: &[u16]) -> Result<Move, Ending>
@@ -94,7 +103,7 @@ pub fn do_ldiv(i: Instr, height: u16, stack: &[u16]) -> Result<Move, Ending>
 {
     ready(Op::Ldiv, i, height)?;
     let w = logical::div(next(height, stack), top(height, stack))?;
-    Ok(push(2, w))
+    Ok(Move::Push { pops: 2, word: w })
 }
 
 pub fn do_lrem(i: Instr, height: u16, stack: &[u16]) -> Result<Move, Ending>
@@ -103,5 +112,5 @@ pub fn do_lrem(i: Instr, height: u16, stack: &[u16]) -> Result<Move, Ending>
 {
     ready(Op::Lrem, i, height)?;
     let w = logical::rem(next(height, stack), top(height, stack))?;
-    Ok(push(2, w))
+    Ok(Move::Push { pops: 2, word: w })
 }

@@ -1,48 +1,11 @@
 // What every instruction is made of: its operands' rules, the words that it looks at, and its move.
 ghost use Rattle.std.specs.Prelude.{◌≡◌, ◌-◌, ◌≤◌, length, slice_index};
-ghost use Rattle.machine.specs.Table.{fine, wants, readied, cell_of, On, Push, Write};
+ghost use Rattle.machine.specs.Table.{fine, wants, readied, cell_of};
 
 use super::ending::Ending;
-use super::vm::{Kind, Move};
 use words::instr::Instr;
 use words::op::Op;
 use words::store::Store;
-
-pub fn on(pops: u16, place: u32) -> Move
-    ensures { result ≡ On pops place }
-{
-    Move {
-        kind: Kind::Goes,
-        pops,
-        word: 0,
-        cell: 0,
-        place,
-    }
-}
-
-pub fn push(pops: u16, word: u16) -> Move
-    ensures { result ≡ Push pops word }
-{
-    Move {
-        kind: Kind::Pushes,
-        pops,
-        word,
-        cell: 0,
-        place: 0,
-    }
-}
-
-pub fn put(pops: u16, cell: u32, word: u16, place: u32) -> Move
-    ensures { result ≡ Write pops cell word place }
-{
-    Move {
-        kind: Kind::Writes,
-        pops,
-        word,
-        cell,
-        place,
-    }
-}
 
 // Whether the operands are in order.
 pub fn fits(op: Op, a: u16, b: u16) -> bool
@@ -109,11 +72,6 @@ pub fn next(height: u16, stack: &[u16]) -> u16
 pub fn cell<S: Store>(store: &S, c: u32) -> Result<u16, Ending>
     ensures { result ≡ cell_of (S.Store.words store.now) c }
 {
-    if c > 65535 {
-        return Err(Ending::Outside);
-    }
-    match store.read(c as u16) {
-        Ok(w) => Ok(w),
-        Err(_) => Err(Ending::Outside),
-    }
+    let c = u16::try_from(c).map_err(|_| Ending::Outside)?;
+    Ok(store.read(c)?)
 }

@@ -4,7 +4,7 @@ ghost use Rattle.machine.specs.Machine.{state, made, goes, able, Makes, Steps, p
 
 use super::act::act;
 use super::ending::Ending;
-use super::vm::{Kind, Move, Vm};
+use super::vm::{Move, Vm};
 use words::instr::Instr;
 use words::store::Store;
 
@@ -26,32 +26,28 @@ fn make<S: Store>(
     ensures did { Makes result (state vm.old stack.old (S.Store.words store.old)) (state vm.new stack.new (S.Store.words store.new)) (made depth m (state vm.old stack.old (S.Store.words store.old))) }
     ensures keeps { S.Store.keeps store.old store.new }
 {
-    let pops = m.pops;
-    let w = m.word;
-    let c = m.cell;
-    let place = m.place;
-    match m.kind {
-        Kind::Goes => {
+    match m {
+        Move::On { pops, place } => {
             vm.height -= pops;
             vm.place = place;
         }
-        Kind::Pushes => {
+        Move::Push { pops, word } => {
             let at = vm.height - pops;
             if at >= depth {
                 return Err(Ending::TooHigh);
             }
-            stack[at as usize] = w;
+            stack[at as usize] = word;
             vm.height = at + 1;
             vm.place += 1;
         }
-        Kind::Writes => {
-            if c > 65535 {
-                return Err(Ending::Outside);
-            }
-            match store.write(c as u16, w) {
-                Ok(()) => {}
-                Err(_) => return Err(Ending::Outside),
-            }
+        Move::Write {
+            pops,
+            cell,
+            word,
+            place,
+        } => {
+            let cell = u16::try_from(cell).map_err(|_| Ending::Outside)?;
+            store.write(cell, word)?;
             vm.height -= pops;
             vm.writes += 1;
             vm.place = place;
@@ -78,10 +74,8 @@ fn fetch<S: Store>(
     if vm.place as usize >= code.len() {
         return Err(Ending::Outside);
     }
-    match act(code[vm.place as usize], vm.place, vm.height, stack, store) {
-        Ok(m) => make(vm, depth, m, stack, store),
-        Err(e) => Err(e),
-    }
+    let m = act(code[vm.place as usize], vm.place, vm.height, stack, store)?;
+    make(vm, depth, m, stack, store)
 }
 
 // Counts a step and makes it, or notes the ending.
@@ -102,11 +96,8 @@ pub(crate) fn cycle<S: Store>(
     ensures keeps { S.Store.keeps store.old store.new }
 {
     vm.steps += 1;
-    match fetch(vm, depth, code, stack, store) {
-        Ok(()) => {}
-        Err(e) => {
-            vm.ending = Some(e);
-        }
+    if let Err(e) = fetch(vm, depth, code, stack, store) {
+        vm.ending = Some(e);
     }
 }
 

@@ -2,10 +2,10 @@ use Rattle.machine.specs.Machine.{state}
 use Rattle.machine.proofs.Steps.{step_ok, step_err}
 use Rattle.machine.proofs.step.cycle.Goals as goal
 
-pub returns-in-Ok : goal.returns-in-Ok
-returns-in-Ok g c =
+pub returns-in_default : goal.returns-in_default
+returns-in_default g c =
     record {
-      did = step_ok _ _ (state c.args.vm.now c.args.stack.now (g.S.Store.words c.args.store.now)) _ c.requires.goes c.in-Ok.ensures.did;
+      did = step_ok _ _ (state c.args.vm.now c.args.stack.now (g.S.Store.words c.args.store.now)) _ c.requires.goes c.in_default.ensures.did;
       keeps = c.fetch.ensures.keeps;
     }
 
