@@ -11,13 +11,13 @@ pub enum Token<'a> {
 }
 
 // The type of a number: decimal digits are an INTEGER, `%` and octal digits a LOGICAL.
-#[derive(Clone, Copy)]
+#[derive(Clone, Copy, PartialEq, Eq, Debug)]
 pub enum Kind {
     Integer,
     Logical,
 }
 
-#[derive(Clone, Copy)]
+#[derive(Clone, Copy, PartialEq, Eq, Debug)]
 pub enum Symbol {
     Becomes,
     Unequal,
@@ -40,7 +40,7 @@ pub enum Symbol {
 }
 
 // A word that no name may be.
-#[derive(Clone, Copy)]
+#[derive(Clone, Copy, PartialEq, Eq, Debug)]
 pub enum Keyword {
     Begin,
     End,
