@@ -8,9 +8,9 @@ ghost use Rattle.image.specs.Faults.{refusal_of};
 ghost use Rattle.image.specs.Reading.{entries_at, decoded, figured, laid};
 ghost use Rattle.words.specs.Refusals.{told};
 
-use crate::Figures;
 use crate::cursor::Cursor;
 use crate::fault::ImageFault;
+use words::code::Figures;
 use words::instr::Instr;
 use words::list::Bounded;
 
