@@ -20,8 +20,9 @@ pub fn xor(y: u16, x: u16) -> u16
     y ^ x
 }
 
+#[tactic(auto, unfolding(crate::specs::Bits::complement))]
 pub fn complement(x: u16) -> u16
     ensures { result ≡ complement_of x }
 {
-    x ^ 65535
+    !x
 }

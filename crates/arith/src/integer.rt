@@ -1,7 +1,7 @@
 // Words as INTEGERs, in two's complement. They are worked out in 32 bits, where nothing overflows.
 ghost use Rattle.std.specs.Prelude.{◌≡◌};
 ghost use Rattle.arith.specs.Integers.{int, fitted, Small, sum, difference, product, quotient, remainder, negation};
-ghost use Rattle.arith.specs.Integers.{subscript as subscript_of, chosen as chosen_of, turns as turns_of, within as within_of};
+ghost use Rattle.arith.specs.Integers.{subscript as subscript_of, chosen as chosen_of, turns as turns_of, within as within_of, below as below_of};
 
 use super::stop::Stop;
 
@@ -84,29 +84,31 @@ fn within(i: u16, n: u16) -> bool
     i < 32768 && i < n
 }
 
+// i, if it is one of the first n numbers from 0.
+fn below(i: u16, n: u16, past: Stop) -> Result<u16, Stop>
+    ensures { result ≡ below_of past i n }
+{
+    if within(i, n) { Ok(i) } else { Err(past) }
+}
+
 // The subscript i of an array of n cells.
+#[tactic(auto, unfolding(crate::specs::Integers::subscript))]
 pub fn subscript(i: u16, n: u16) -> Result<u16, Stop>
     ensures { result ≡ subscript_of i n }
 {
-    if within(i, n) {
-        Ok(i)
-    } else {
-        Err(Stop::BadIndex)
-    }
+    below(i, n, Stop::BadIndex)
 }
 
 // The index i of a CASE of n statements.
+#[tactic(auto, unfolding(crate::specs::Integers::chosen))]
 pub fn chosen(i: u16, n: u16) -> Result<u16, Stop>
     ensures { result ≡ chosen_of i n }
 {
-    if within(i, n) {
-        Ok(i)
-    } else {
-        Err(Stop::BadCase)
-    }
+    below(i, n, Stop::BadCase)
 }
 
 // Whether a FOR takes another turn.
+#[tactic(auto, unfolding(crate::specs::Integers::turns))]
 pub fn turns(variable: u16, step: u16, limit: u16) -> bool
     ensures { result ≡ turns_of variable step limit }
 {

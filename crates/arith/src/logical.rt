@@ -5,40 +5,39 @@ ghost use Rattle.arith.specs.Logicals.{odd as odd_of, truth as truth_of};
 
 use super::stop::Stop;
 
+#[tactic(auto, unfolding(crate::specs::Logicals::lsum))]
 pub fn add(y: u16, x: u16) -> u16
     ensures { result ≡ lsum y x }
 {
     y.wrapping_add(x)
 }
 
+#[tactic(auto, unfolding(crate::specs::Logicals::ldifference))]
 pub fn sub(y: u16, x: u16) -> u16
     ensures { result ≡ ldifference y x }
 {
     y.wrapping_sub(x)
 }
 
+#[tactic(auto, unfolding(crate::specs::Logicals::lproduct))]
 pub fn mul(y: u16, x: u16) -> u16
     ensures { result ≡ lproduct y x }
 {
     y.wrapping_mul(x)
 }
 
+#[tactic(auto, unfolding(crate::specs::Logicals::lquotient))]
 pub fn div(y: u16, x: u16) -> Result<u16, Stop>
     ensures { result ≡ lquotient y x }
 {
-    if x == 0 {
-        return Err(Stop::ZeroDivisor);
-    }
-    Ok(y / x)
+    y.checked_div(x).ok_or(Stop::ZeroDivisor)
 }
 
+#[tactic(auto, unfolding(crate::specs::Logicals::lremainder))]
 pub fn rem(y: u16, x: u16) -> Result<u16, Stop>
     ensures { result ≡ lremainder y x }
 {
-    if x == 0 {
-        return Err(Stop::ZeroDivisor);
-    }
-    Ok(y % x)
+    y.checked_rem(x).ok_or(Stop::ZeroDivisor)
 }
 
 // TRUE or FALSE.
@@ -49,6 +48,7 @@ pub fn truth(t: bool) -> u16
 }
 
 // Whether a word counts as true in a condition.
+#[tactic(auto, unfolding(crate::specs::Logicals::odd))]
 pub fn odd(w: u16) -> bool
     ensures { result ≡ odd_of w }
 {

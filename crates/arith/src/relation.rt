@@ -1,9 +1,11 @@
 // The relations, and what they answer of two words: TRUE or FALSE.
-ghost use Rattle.std.specs.Prelude.{◌≡◌};
+ghost use Rattle.std.specs.Prelude.{◌≡◌, MatchResult, Some, None};
 ghost use Rattle.arith.specs.Relations.{relation_number, relation_at, holds as holds_of, compared, lcompared};
 
 use super::integer::value;
 use super::logical::truth;
+use std::error::Error;
+use std::fmt;
 
 #[derive(Clone, Copy, PartialEq, Eq, Debug)]
 pub enum Relation {
@@ -15,35 +17,45 @@ pub enum Relation {
     AtLeast,
 }
 
-impl Relation {
-    pub fn number(&self) -> u16
-        ensures { result ≡ relation_number self.now }
-    {
-        match self {
-            Relation::Equal => 0,
-            Relation::Unequal => 1,
-            Relation::Less => 2,
-            Relation::AtMost => 3,
-            Relation::Greater => 4,
-            Relation::AtLeast => 5,
-        }
-    }
+impl From<Relation> for u16 {
+    ghost from_gives = { λ by r. r ≡ relation_number by };
 
-    // The relation of a number, which is at most 5.
-    pub fn at(number: u16) -> Option<Relation>
-        ensures { result ≡ relation_at number }
-    {
+    fn from(by: Relation) -> u16 {
+        by as u16
+    }
+}
+
+// A number that no relation has: they end at 5.
+#[derive(Clone, Copy, PartialEq, Eq, Debug)]
+pub struct UnknownRelation(pub u16);
+
+impl TryFrom<u16> for Relation {
+    type Error = UnknownRelation;
+
+    ghost try_from_gives = { λ number r. MatchResult r (λ by. relation_at number ≡ Some by) (λ _. relation_at number ≡ None) };
+
+    fn try_from(number: u16) -> Result<Relation, UnknownRelation> {
         match number {
-            0 => Some(Relation::Equal),
-            1 => Some(Relation::Unequal),
-            2 => Some(Relation::Less),
-            3 => Some(Relation::AtMost),
-            4 => Some(Relation::Greater),
-            5 => Some(Relation::AtLeast),
-            _ => None,
+            0 => Ok(Relation::Equal),
+            1 => Ok(Relation::Unequal),
+            2 => Ok(Relation::Less),
+            3 => Ok(Relation::AtMost),
+            4 => Ok(Relation::Greater),
+            5 => Ok(Relation::AtLeast),
+            _ => Err(UnknownRelation(number)),
         }
     }
+}
 
+impl fmt::Display for UnknownRelation {
+    fn fmt<W: fmt::Write>(&self, f: &mut fmt::Formatter<W>) -> fmt::Result {
+        write!(f, "there is no relation {}", self.0)
+    }
+}
+
+impl Error for UnknownRelation {}
+
+impl Relation {
     // Whether it holds, where it is known whether the left is less, and whether both are the same.
     fn holds(self, less: bool, same: bool) -> bool
         ensures { result ≡ holds_of self less same }
@@ -60,6 +72,7 @@ impl Relation {
 }
 
 // INTEGERs.
+#[tactic(auto, unfolding(crate::specs::Relations::compared))]
 pub fn compare(by: Relation, y: u16, x: u16) -> u16
     ensures { result ≡ compared by y x }
 {
@@ -67,6 +80,7 @@ pub fn compare(by: Relation, y: u16, x: u16) -> u16
 }
 
 // LOGICALs.
+#[tactic(auto, unfolding(crate::specs::Relations::lcompared))]
 pub fn compare_logical(by: Relation, y: u16, x: u16) -> u16
     ensures { result ≡ lcompared by y x }
 {

@@ -1,6 +1,9 @@
 // The shifts of a word.
-ghost use Rattle.std.specs.Prelude.{◌≡◌, ◌≤◌, true, false, MatchOption};
+ghost use Rattle.std.specs.Prelude.{◌≡◌, ◌<◌, ◌≤◌, true, false, MatchOption, MatchResult};
 ghost use Rattle.arith.specs.Shifts.{kind_number, kind_of, is_shift, shifted};
+
+use std::error::Error;
+use std::fmt;
 
 #[derive(Clone, Copy, PartialEq, Eq, Debug)]
 pub enum Kind {
@@ -11,19 +14,42 @@ pub enum Kind {
     Csr,
 }
 
-impl Kind {
-    pub fn number(&self) -> u16
-        ensures { result ≡ kind_number self.now }
-    {
-        match self {
-            Kind::Lsl => 0,
-            Kind::Lsr => 1,
-            Kind::Asr => 2,
-            Kind::Csl => 3,
-            Kind::Csr => 4,
+impl From<Kind> for u16 {
+    ghost from_gives = { λ kind r. r ≡ kind_number kind };
+
+    fn from(kind: Kind) -> u16 {
+        kind as u16
+    }
+}
+
+// A number that no kind of shift has: they end at 4.
+#[derive(Clone, Copy, PartialEq, Eq, Debug)]
+pub struct UnknownShift(pub u16);
+
+impl TryFrom<u16> for Kind {
+    type Error = UnknownShift;
+
+    ghost try_from_gives = { λ number r. MatchResult r (λ kind. (number ≤ 4) × (kind ≡ kind_of number)) (λ _. 4 < number) };
+
+    fn try_from(number: u16) -> Result<Kind, UnknownShift> {
+        match number {
+            0 => Ok(Kind::Lsl),
+            1 => Ok(Kind::Lsr),
+            2 => Ok(Kind::Asr),
+            3 => Ok(Kind::Csl),
+            4 => Ok(Kind::Csr),
+            _ => Err(UnknownShift(number)),
         }
     }
 }
+
+impl fmt::Display for UnknownShift {
+    fn fmt<W: fmt::Write>(&self, f: &mut fmt::Formatter<W>) -> fmt::Result {
+        write!(f, "there is no shift {}", self.0)
+    }
+}
+
+impl Error for UnknownShift {}
 
 // A shift by a count of at most 15.
 #[derive(Clone, Copy)]
@@ -41,15 +67,10 @@ impl Shift {
         if count > 15 {
             return None;
         }
-        let kind = match number {
-            0 => Kind::Lsl,
-            1 => Kind::Lsr,
-            2 => Kind::Asr,
-            3 => Kind::Csl,
-            4 => Kind::Csr,
-            _ => return None,
-        };
-        Some(Shift { kind, count })
+        match Kind::try_from(number) {
+            Ok(kind) => Some(Shift { kind, count }),
+            Err(_) => None,
+        }
     }
 
     pub fn apply(self, x: u16) -> u16

@@ -5,7 +5,7 @@ use Rattle.std.proofs.lemmas.Bool.{ltb-false, eqb-false, cond_both}
 use Rattle.words.specs.Refusals.{refuse, then}
 use Rattle.words.specs.declared.refusal.Refusal.{Refusal}
 use Rattle.words.specs.declared.instr.Instr.{Instr}
-use Rattle.image.specs.declared.Figures.{Figures}
+use Rattle.words.specs.declared.code.Figures.{Figures}
 use Rattle.image.specs.Groups.{number}
 use Rattle.image.specs.Reading.{cells_at, count_at, figures_at, entry_at, entries_at, decoded, figured, laid}
 use Rattle.image.proofs.Numbers.{got}

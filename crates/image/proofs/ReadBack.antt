@@ -4,7 +4,7 @@ use Rattle.std.proofs.lemmas.Bool.{and_parts, eqb-true, leb-true, le-ltb, ne_eqb
 use Rattle.words.specs.Rows.{operands_of}
 use Rattle.words.specs.declared.instr.Instr.{Instr}
 use Rattle.words.specs.declared.refusal.Refusal.{Refusal}
-use Rattle.image.specs.declared.Figures.{Figures}
+use Rattle.words.specs.declared.code.Figures.{Figures}
 use Rattle.image.specs.Codes.{Code, named_bytes, entry_bytes, body_bytes, image, unnamed_zero, good_entry, good_header}
 use Rattle.image.specs.Groups.{written, number}
 use Rattle.image.specs.Reading.{Read, operands_at, entry_at, entries_at, figures_at}

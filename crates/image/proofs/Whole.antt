@@ -4,7 +4,7 @@ use Rattle.std.proofs.lemmas.Bool.{and_from, le-leb, cond_both}
 use Rattle.words.specs.Refusals.{refuse, then}
 use Rattle.words.specs.declared.instr.Instr.{Instr}
 use Rattle.words.specs.declared.refusal.Refusal.{Refusal}
-use Rattle.image.specs.declared.Figures.{Figures}
+use Rattle.words.specs.declared.code.Figures.{Figures}
 use Rattle.image.specs.Codes.{Code, coded, body_bytes, image, good_header}
 use Rattle.image.specs.Groups.{written}
 use Rattle.image.specs.Reading.{figures_at, entries_at, decoded}

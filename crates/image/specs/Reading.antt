@@ -4,7 +4,7 @@ use Rattle.words.specs.Refusals.{refuse, then}
 use Rattle.words.specs.Rows.{operands_of}
 use Rattle.words.specs.declared.refusal.Refusal.{Refusal}
 use Rattle.words.specs.declared.instr.Instr.{Instr}
-use Rattle.image.specs.declared.Figures.{Figures}
+use Rattle.words.specs.declared.code.Figures.{Figures}
 use Rattle.image.specs.Codes.{Code}
 use Rattle.image.specs.Groups.{number}
 

@@ -3,26 +3,27 @@ ghost use Rattle.std.specs.Prelude.{◌≡◌};
 ghost use Rattle.image.specs.Cursors.{Took, rest_of};
 ghost use Rattle.image.specs.Reading.{entry_at, figures_at};
 
-use crate::Figures;
 use crate::cursor::Cursor;
 use crate::fault::ImageFault;
+use words::code::Figures;
 use words::instr::{Instr, operands};
 
 impl<'a> Cursor<'a> {
     // An instruction's number, then the operands that it names.
+    #[tactic(auto, unfolding(crate::specs::Reading::entry_at))]
     pub(crate) fn entry(&mut self) -> Result<Instr, ImageFault>
         ensures { Took (entry_at self.old.end (rest_of self.old)) self.old self.new result }
     {
         let at = self.place();
         let number = self.number()?;
-        match operands(number) {
-            None => Err(ImageFault::UnknownInstruction(at)),
-            Some(0) => Ok(Instr { number, a: 0, b: 0 }),
-            Some(1) => {
+        let named = operands(number).ok_or(ImageFault::UnknownInstruction(at))?;
+        match named {
+            0 => Ok(Instr { number, a: 0, b: 0 }),
+            1 => {
                 let a = self.number()?;
                 Ok(Instr { number, a, b: 0 })
             }
-            Some(_) => {
+            _ => {
                 let a = self.number()?;
                 let b = self.number()?;
                 Ok(Instr { number, a, b })
@@ -31,6 +32,7 @@ impl<'a> Cursor<'a> {
     }
 
     // Cells, depth and count, for a table of `room` entries.
+    #[tactic(auto, unfolding(crate::specs::Reading::figures_at))]
     pub(crate) fn figures(&mut self, room: usize) -> Result<Figures, ImageFault>
         ensures { Took (figures_at self.old.end room (rest_of self.old)) self.old self.new result }
     {

@@ -2,10 +2,12 @@
 ghost use Rattle.std.specs.Prelude.{◌≡◌};
 ghost use Rattle.image.specs.Faults.{refusal_of};
 
+use std::error::Error;
+use std::fmt;
 use words::refusal::Refusal;
 
 // Each with its place: of the number's first byte, where nothing else is said.
-#[derive(Clone, Copy, PartialEq, Debug)]
+#[derive(Clone, Copy, PartialEq, Eq, Debug)]
 pub enum ImageFault {
     // The bytes end inside the image; the place is their length.
     CutShort(usize),
@@ -27,47 +29,39 @@ pub enum ImageFault {
     BadEntry(usize),
 }
 
-impl ImageFault {
-    pub fn refusal(&self) -> Refusal
-        ensures { result ≡ refusal_of self.now }
-    {
-        match self {
-            ImageFault::CutShort(place) => Refusal {
-                number: 20,
-                place: *place,
-            },
-            ImageFault::LeadingZeros(place) => Refusal {
-                number: 21,
-                place: *place,
-            },
-            ImageFault::TooLarge(place) => Refusal {
-                number: 22,
-                place: *place,
-            },
-            ImageFault::UnknownInstruction(place) => Refusal {
-                number: 23,
-                place: *place,
-            },
-            ImageFault::BytesLeft(place) => Refusal {
-                number: 24,
-                place: *place,
-            },
-            ImageFault::BadHeader(place) => Refusal {
-                number: 25,
-                place: *place,
-            },
-            ImageFault::TableShort(place) => Refusal {
-                number: 26,
-                place: *place,
-            },
-            ImageFault::RoomShort(needed) => Refusal {
-                number: 27,
-                place: *needed,
-            },
-            ImageFault::BadEntry(index) => Refusal {
-                number: 28,
-                place: *index,
-            },
-        }
+impl From<ImageFault> for Refusal {
+    ghost from_gives = { λ e r. r ≡ refusal_of e };
+
+    fn from(e: ImageFault) -> Refusal {
+        let (number, place) = match e {
+            ImageFault::CutShort(place) => (20, place),
+            ImageFault::LeadingZeros(place) => (21, place),
+            ImageFault::TooLarge(place) => (22, place),
+            ImageFault::UnknownInstruction(place) => (23, place),
+            ImageFault::BytesLeft(place) => (24, place),
+            ImageFault::BadHeader(place) => (25, place),
+            ImageFault::TableShort(place) => (26, place),
+            ImageFault::RoomShort(needed) => (27, needed),
+            ImageFault::BadEntry(index) => (28, index),
+        };
+        Refusal { place, number }
     }
 }
+
+impl fmt::Display for ImageFault {
+    fn fmt<W: fmt::Write>(&self, f: &mut fmt::Formatter<W>) -> fmt::Result {
+        f.write_str(match self {
+            ImageFault::CutShort(_) => "the image is cut short",
+            ImageFault::LeadingZeros(_) => "a number begins with a group of zeros",
+            ImageFault::TooLarge(_) => "a number is over 65535",
+            ImageFault::UnknownInstruction(_) => "there is no instruction of this number",
+            ImageFault::BytesLeft(_) => "bytes are left after the last instruction",
+            ImageFault::BadHeader(_) => "the cells are over 4096, or the instructions are none or over 16383",
+            ImageFault::TableShort(_) => "the table has too few entries for the instructions",
+            ImageFault::RoomShort(_) => "the room is too short: the image takes this many bytes",
+            ImageFault::BadEntry(_) => "the entry or the header is no code's",
+        })
+    }
+}
+
+impl Error for ImageFault {}

@@ -8,12 +8,3 @@ mod groups;
 pub mod laws;
 pub mod read;
 pub mod write;
-
-// What an image says before its instructions: the cells that the code uses, the stack words that it needs, and how
-// many instructions it has.
-#[derive(Clone, Copy, PartialEq, Debug)]
-pub struct Figures {
-    pub cells: u16,
-    pub depth: u16,
-    pub count: u16,
-}

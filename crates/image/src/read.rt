@@ -8,9 +8,9 @@ ghost use Rattle.image.specs.Faults.{refusal_of};
 ghost use Rattle.image.specs.Reading.{entries_at, decoded, figured, laid};
 ghost use Rattle.words.specs.Refusals.{told};
 
-use crate::Figures;
 use crate::cursor::Cursor;
 use crate::fault::ImageFault;
+use words::code::Figures;
 use words::instr::Instr;
 use words::list::Bounded;
 
@@ -29,7 +29,7 @@ impl<'a> Cursor<'a> {
     fn walk(&mut self, count: u16) -> Result<(), ImageFault>
         ensures { Walked (entries_at self.old.end count [] (rest_of self.old)) result }
     {
-        for i in 0..count {
+        for _ in 0..count {
             self.entry()?;
         }
         self.ends()
@@ -42,7 +42,7 @@ fn fill(cursor: &mut Cursor<'_>, count: u16, table: &mut [Instr]) -> Result<(), 
     ensures { Filled (entries_at cursor.old.end count [] (rest_of cursor.old)) count table.old table.new result }
 {
     let mut list = Bounded::new(table);
-    for i in 0..count {
+    for _ in 0..count {
         let entry = cursor.entry()?;
         let _ = list.push(entry);
     }
@@ -59,10 +59,7 @@ pub fn decode(bytes: &[u8], table: &mut [Instr]) -> Result<Figures, ImageFault>
     let mut cursor = Cursor { rest: bytes, end };
     let figures = cursor.figures(table.len())?;
     // A cursor of its own judges all that follows before the table is touched.
-    let mut ahead = Cursor {
-        rest: cursor.rest,
-        end,
-    };
+    let mut ahead = cursor;
     ahead.walk(figures.count)?;
     fill(&mut cursor, figures.count, table)?;
     Ok(figures)

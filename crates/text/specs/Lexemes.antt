@@ -83,6 +83,11 @@ abbrev pub start_of : List ℕ → Start
 start_of [] = Other
 start_of (b ∷ bs) = cond (capital b) Letter (cond (digit b) Decimal (cond (b == 37) Percent (cond (opens (b ∷ bs)) Comment Other)))
 
+-- how a declaration writes the type of a number
+abbrev pub kind_text : Kind → List ℕ
+kind_text Integer = codes "INTEGER"
+kind_text Logical = codes "LOGICAL"
+
 -- how each symbol is written
 abbrev pub symbol_text : Symbol → List ℕ
 symbol_text Becomes = codes ":="

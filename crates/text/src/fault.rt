@@ -2,41 +2,44 @@
 ghost use Rattle.std.specs.Prelude.{◌≡◌};
 ghost use Rattle.text.specs.Faults.{refusal_of};
 
+use thiserror::Error;
 use words::refusal::Refusal;
 
-#[derive(Clone, Copy, PartialEq, Debug)]
+#[derive(Clone, Copy, PartialEq, Eq, Debug, Error)]
 pub enum TextFault {
-    // the source has over 32,768 bytes
+    #[error("the source has over 32768 bytes")]
     TooLong,
-    // no token begins at this place
+    // at this place
+    #[error("no token begins here")]
     NoToken(usize),
-    // a bad or oversized word or number begins at this place
+    // which begins at this place
+    #[error("a bad or oversized word or number")]
     BadToken(usize),
-    // a comment begins at this place and has no end
+    // which begins at this place
+    #[error("a comment has no end")]
     OpenComment(usize),
+}
+
+impl From<TextFault> for Refusal {
+    ghost from_gives = { λ e r. r ≡ refusal_of e };
+
+    fn from(e: TextFault) -> Refusal {
+        match e {
+            TextFault::TooLong => Refusal {
+                number: 1,
+                place: 32768,
+            },
+            TextFault::NoToken(place) => Refusal { number: 2, place },
+            TextFault::BadToken(place) => Refusal { number: 3, place },
+            TextFault::OpenComment(place) => Refusal { number: 4, place },
+        }
+    }
 }
 
 impl TextFault {
     pub fn refusal(&self) -> Refusal
         ensures { result ≡ refusal_of self.now }
     {
-        match self {
-            TextFault::TooLong => Refusal {
-                number: 1,
-                place: 32768,
-            },
-            TextFault::NoToken(p) => Refusal {
-                number: 2,
-                place: *p,
-            },
-            TextFault::BadToken(p) => Refusal {
-                number: 3,
-                place: *p,
-            },
-            TextFault::OpenComment(p) => Refusal {
-                number: 4,
-                place: *p,
-            },
-        }
+        Refusal::from(*self)
     }
 }

@@ -1,236 +1,144 @@
 // The reserved words.
 ghost use Rattle.std.specs.Prelude.{◌≡◌, map};
-ghost use Rattle.text.specs.Names.{name_of};
 ghost use Rattle.text.specs.Reserved.{entry_of, reserved_words, keyword_of};
 
-use crate::name::Name;
 use crate::search::{Named, find};
 use crate::token::Keyword;
 
 // A word that no name may be.
 #[derive(Clone, Copy)]
-pub struct Reserved {
-    name: Name,
+struct Reserved {
+    name: &'static [u8],
     keyword: Keyword,
 }
 
 impl Named for Reserved {
-    ghost spelled = { λ s. name_of s.name };
+    ghost spelled = { λ s. s.name.now };
 
     fn name(&self) -> &[u8] {
-        self.name.name()
+        self.name
     }
 }
 
 static RESERVED: [Reserved; 30] = [
     Reserved {
-        name: Name {
-            bytes: *b"BEGIN..........",
-            len: 5,
-        },
+        name: b"BEGIN",
         keyword: Keyword::Begin,
     },
     Reserved {
-        name: Name {
-            bytes: *b"END............",
-            len: 3,
-        },
+        name: b"END",
         keyword: Keyword::End,
     },
     Reserved {
-        name: Name {
-            bytes: *b"INTEGER........",
-            len: 7,
-        },
+        name: b"INTEGER",
         keyword: Keyword::Integer,
     },
     Reserved {
-        name: Name {
-            bytes: *b"LOGICAL........",
-            len: 7,
-        },
+        name: b"LOGICAL",
         keyword: Keyword::Logical,
     },
     Reserved {
-        name: Name {
-            bytes: *b"ARRAY..........",
-            len: 5,
-        },
+        name: b"ARRAY",
         keyword: Keyword::Array,
     },
     Reserved {
-        name: Name {
-            bytes: *b"IF.............",
-            len: 2,
-        },
+        name: b"IF",
         keyword: Keyword::If,
     },
     Reserved {
-        name: Name {
-            bytes: *b"THEN...........",
-            len: 4,
-        },
+        name: b"THEN",
         keyword: Keyword::Then,
     },
     Reserved {
-        name: Name {
-            bytes: *b"ELSE...........",
-            len: 4,
-        },
+        name: b"ELSE",
         keyword: Keyword::Else,
     },
     Reserved {
-        name: Name {
-            bytes: *b"CASE...........",
-            len: 4,
-        },
+        name: b"CASE",
         keyword: Keyword::Case,
     },
     Reserved {
-        name: Name {
-            bytes: *b"OF.............",
-            len: 2,
-        },
+        name: b"OF",
         keyword: Keyword::Of,
     },
     Reserved {
-        name: Name {
-            bytes: *b"WHILE..........",
-            len: 5,
-        },
+        name: b"WHILE",
         keyword: Keyword::While,
     },
     Reserved {
-        name: Name {
-            bytes: *b"DO.............",
-            len: 2,
-        },
+        name: b"DO",
         keyword: Keyword::Do,
     },
     Reserved {
-        name: Name {
-            bytes: *b"UNTIL..........",
-            len: 5,
-        },
+        name: b"UNTIL",
         keyword: Keyword::Until,
     },
     Reserved {
-        name: Name {
-            bytes: *b"FOR............",
-            len: 3,
-        },
+        name: b"FOR",
         keyword: Keyword::For,
     },
     Reserved {
-        name: Name {
-            bytes: *b"STEP...........",
-            len: 4,
-        },
+        name: b"STEP",
         keyword: Keyword::Step,
     },
     Reserved {
-        name: Name {
-            bytes: *b"OR.............",
-            len: 2,
-        },
+        name: b"OR",
         keyword: Keyword::Or,
     },
     Reserved {
-        name: Name {
-            bytes: *b"AND............",
-            len: 3,
-        },
+        name: b"AND",
         keyword: Keyword::And,
     },
     Reserved {
-        name: Name {
-            bytes: *b"MOD............",
-            len: 3,
-        },
+        name: b"MOD",
         keyword: Keyword::Mod,
     },
     Reserved {
-        name: Name {
-            bytes: *b"LNOT...........",
-            len: 4,
-        },
+        name: b"LNOT",
         keyword: Keyword::Lnot,
     },
     Reserved {
-        name: Name {
-            bytes: *b"LAND...........",
-            len: 4,
-        },
+        name: b"LAND",
         keyword: Keyword::Land,
     },
     Reserved {
-        name: Name {
-            bytes: *b"XOR............",
-            len: 3,
-        },
+        name: b"XOR",
         keyword: Keyword::Xor,
     },
     Reserved {
-        name: Name {
-            bytes: *b"LOR............",
-            len: 3,
-        },
+        name: b"LOR",
         keyword: Keyword::Lor,
     },
     Reserved {
-        name: Name {
-            bytes: *b"LSL............",
-            len: 3,
-        },
+        name: b"LSL",
         keyword: Keyword::Lsl,
     },
     Reserved {
-        name: Name {
-            bytes: *b"LSR............",
-            len: 3,
-        },
+        name: b"LSR",
         keyword: Keyword::Lsr,
     },
     Reserved {
-        name: Name {
-            bytes: *b"ASR............",
-            len: 3,
-        },
+        name: b"ASR",
         keyword: Keyword::Asr,
     },
     Reserved {
-        name: Name {
-            bytes: *b"CSL............",
-            len: 3,
-        },
+        name: b"CSL",
         keyword: Keyword::Csl,
     },
     Reserved {
-        name: Name {
-            bytes: *b"CSR............",
-            len: 3,
-        },
+        name: b"CSR",
         keyword: Keyword::Csr,
     },
     Reserved {
-        name: Name {
-            bytes: *b"TRUE...........",
-            len: 4,
-        },
+        name: b"TRUE",
         keyword: Keyword::True,
     },
     Reserved {
-        name: Name {
-            bytes: *b"FALSE..........",
-            len: 5,
-        },
+        name: b"FALSE",
         keyword: Keyword::False,
     },
     Reserved {
-        name: Name {
-            bytes: *b"COMMENT........",
-            len: 7,
-        },
+        name: b"COMMENT",
         keyword: Keyword::Comment,
     },
 ];
@@ -247,8 +155,6 @@ pub fn keyword(word: &[u8]) -> Option<Keyword>
     ensures { result ≡ keyword_of word.now }
 {
     let words = table();
-    match find(words, word) {
-        Some(i) => Some(words[i].keyword),
-        None => None,
-    }
+    let i = find(words, word)?;
+    Some(words[i].keyword)
 }

@@ -1,4 +1,8 @@
 // What a source is made of.
+ghost use Rattle.std.specs.Prelude.{◌≡◌, Some};
+ghost use Rattle.text.specs.Lexemes.{kind_text, symbol_text};
+
+use std::fmt;
 
 // A part of the source, with its place: the offset of its first byte.
 #[derive(Clone, Copy)]
@@ -11,13 +15,33 @@ pub enum Token<'a> {
 }
 
 // The type of a number: decimal digits are an INTEGER, `%` and octal digits a LOGICAL.
-#[derive(Clone, Copy)]
+#[derive(Clone, Copy, PartialEq, Eq, Debug)]
 pub enum Kind {
     Integer,
     Logical,
 }
 
-#[derive(Clone, Copy)]
+impl Kind {
+    // How a declaration writes it.
+    fn text(self) -> &'static str
+        ensures { result.now ≡ kind_text self }
+    {
+        match self {
+            Kind::Integer => "INTEGER",
+            Kind::Logical => "LOGICAL",
+        }
+    }
+}
+
+impl fmt::Display for Kind {
+    ghost output = { λ k. Some (kind_text k) };
+
+    fn fmt<W: fmt::Write>(&self, f: &mut fmt::Formatter<W>) -> fmt::Result {
+        f.pad(self.text())
+    }
+}
+
+#[derive(Clone, Copy, PartialEq, Eq, Debug)]
 pub enum Symbol {
     Becomes,
     Unequal,
@@ -39,8 +63,44 @@ pub enum Symbol {
     Ampersand,
 }
 
+impl Symbol {
+    // How it is written.
+    fn text(self) -> &'static str
+        ensures { result.now ≡ symbol_text self }
+    {
+        match self {
+            Symbol::Becomes => ":=",
+            Symbol::Unequal => "<>",
+            Symbol::AtMost => "<=",
+            Symbol::AtLeast => ">=",
+            Symbol::Semicolon => ";",
+            Symbol::Comma => ",",
+            Symbol::Dot => ".",
+            Symbol::Open => "(",
+            Symbol::Close => ")",
+            Symbol::Colon => ":",
+            Symbol::Equal => "=",
+            Symbol::Less => "<",
+            Symbol::Greater => ">",
+            Symbol::Plus => "+",
+            Symbol::Minus => "-",
+            Symbol::Times => "*",
+            Symbol::Divide => "/",
+            Symbol::Ampersand => "&",
+        }
+    }
+}
+
+impl fmt::Display for Symbol {
+    ghost output = { λ s. Some (symbol_text s) };
+
+    fn fmt<W: fmt::Write>(&self, f: &mut fmt::Formatter<W>) -> fmt::Result {
+        f.pad(self.text())
+    }
+}
+
 // A word that no name may be.
-#[derive(Clone, Copy)]
+#[derive(Clone, Copy, PartialEq, Eq, Debug)]
 pub enum Keyword {
     Begin,
     End,

@@ -8,6 +8,7 @@ use crate::fault::TextFault;
 use crate::scan::{next, peek};
 use crate::token::Token;
 use std::alloc::{AllocError, AllocFailed, Global};
+use thiserror::Error;
 
 // Looks at the whole source before any of its tokens is used: its refusals come first.
 pub fn check(source: &[u8]) -> Result<(), TextFault>
@@ -25,11 +26,15 @@ pub fn check(source: &[u8]) -> Result<(), TextFault>
 }
 
 // Why there is no list of tokens: the text is refused, or no memory is left for it.
-#[derive(Clone, Copy)]
+#[derive(Clone, Copy, PartialEq, Eq, Debug, Error)]
 pub enum TokensFault {
+    #[error(transparent)]
     Text(TextFault),
+    #[error("want of memory")]
     Memory,
 }
+
+// By hand: a derived `From` does not say which error it makes.
 
 impl From<TextFault> for TokensFault {
     ghost from_gives = { λ e r. r ≡ Text e };

@@ -5,3 +5,4 @@ pub mod Ops
 pub mod Refusals
 pub mod Rows
 pub mod Stores
+pub mod Stacks

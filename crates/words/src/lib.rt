@@ -1,8 +1,10 @@
 // Words, and what every layer shares: refusals, instruction records, the bounded list and the stores.
 #![tactic(auto)]
 
+pub mod code;
 pub mod instr;
 pub mod list;
 pub mod op;
 pub mod refusal;
+pub mod reserved;
 pub mod store;

@@ -1,7 +1,8 @@
-// How every layer says no: a number that names the fault, and the place where it was met.
+// How every layer says no: the place where the fault was met, and a number that names it. They are ordered as they
+// decide: by place, then by number.
 
-#[derive(Clone, Copy, PartialEq, Debug)]
+#[derive(Clone, Copy, PartialEq, Eq, PartialOrd, Ord, Debug)]
 pub struct Refusal {
-    pub number: u8,
     pub place: usize,
+    pub number: u8,
 }

@@ -1,30 +1,55 @@
 // Memory of words, read and written by cell.
-ghost use Rattle.std.specs.Prelude.{◌≡◌, ℕ, ◌<◌, ◌≤◌, List, length, slice_index, slice_set};
+ghost use Rattle.std.specs.Prelude.{◌≡◌, ℕ, ◌<◌, ◌≤◌, List, MatchResult, length, slice_index, slice_set};
 ghost use Rattle.words.specs.Refusals.{told};
+ghost use Rattle.words.specs.declared.store.StoreFault.TheVariants.{NoCell};
 ghost use Rattle.words.specs.Stores.{read_of, write_of, refusal_of};
 
 use crate::refusal::Refusal;
+use std::error::Error;
+use std::fmt;
 
 pub mod bytes;
 pub mod joined;
 pub mod lent;
 
-#[derive(Clone, Copy, PartialEq, Debug)]
+#[derive(Clone, Copy, PartialEq, Eq, Debug)]
 pub enum StoreFault {
     // The store has no such cell.
     NoCell(u16),
 }
 
-impl StoreFault {
-    pub fn refusal(&self) -> Refusal
-        ensures { result ≡ refusal_of self.now }
-    {
-        match self {
+impl From<StoreFault> for Refusal {
+    ghost from_gives = { λ e r. r ≡ refusal_of e };
+
+    fn from(e: StoreFault) -> Refusal {
+        match e {
             StoreFault::NoCell(cell) => Refusal {
                 number: 36,
-                place: *cell as usize,
+                place: cell as usize,
             },
         }
+    }
+}
+
+impl fmt::Display for StoreFault {
+    fn fmt<W: fmt::Write>(&self, f: &mut fmt::Formatter<W>) -> fmt::Result {
+        write!(f, "the store has no such cell")
+    }
+}
+
+impl Error for StoreFault {}
+
+// Cells past the first 65,535 are not used.
+const MOST: usize = 65535;
+
+// A store of this size has the cell.
+fn within(cell: u16, size: u16) -> Result<(), StoreFault>
+    ensures { MatchResult result (λ _. cell < size) (λ e. (e ≡ NoCell cell) × (size ≤ cell)) }
+{
+    if cell < size {
+        Ok(())
+    } else {
+        Err(StoreFault::NoCell(cell))
     }
 }
 

@@ -4,7 +4,7 @@ ghost use Rattle.std.proofs.Common.{◌∙◌};
 ghost use Rattle.words.specs.Cells.{short_pairs_of, small_pairs_of};
 ghost use Rattle.words.specs.Stores.{pair, pairs_of};
 
-use super::{Store, StoreFault};
+use super::{MOST, Store, StoreFault, within};
 
 // An odd last byte, and those past the first 65,535 words, are not used.
 #[derive(Drop)]
@@ -42,21 +42,16 @@ impl<'a> Store for Bytes<'a> {
     ghost goes = { λ s t u p q. (q.0 ∙ p.0, q.1 ∙ p.1) };
 
     fn size(&self) -> u16 {
-        let n = self.cells.len() / 2;
-        if n < 65535 { n as u16 } else { 65535 }
+        MOST.min(self.cells.len() / 2) as u16
     }
 
     fn read(&self, cell: u16) -> Result<u16, StoreFault> {
-        if cell >= self.size() {
-            return Err(StoreFault::NoCell(cell));
-        }
+        within(cell, self.size())?;
         Ok(at(self.cells, 2 * cell as usize))
     }
 
     fn write(&mut self, cell: u16, w: u16) -> Result<(), StoreFault> {
-        if cell >= self.size() {
-            return Err(StoreFault::NoCell(cell));
-        }
+        within(cell, self.size())?;
         put(self.cells, 2 * cell as usize, w);
         Ok(())
     }

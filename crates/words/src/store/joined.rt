@@ -5,7 +5,7 @@ ghost use Rattle.words.specs.Cells.{short_joined_of, small_joined_of};
 ghost use Rattle.words.specs.Halves.{half_of};
 ghost use Rattle.words.specs.Stores.{joined_of};
 
-use super::{Store, StoreFault};
+use super::{Store, StoreFault, within};
 
 // The cells of the first, then those of the second. What passes 65,535 words is not used.
 #[derive(Drop)]
@@ -46,15 +46,11 @@ impl<'a, 'b, X: Store, Y: Store> Store for Joined<'a, 'b, X, Y> {
     ghost goes = { λ s t u p q. (q.0 ∙ p.0, q.1 ∙ p.1, X.Store.goes s.first.now t.first.now u.first.now p.2 q.2, Y.Store.goes s.second.now t.second.now u.second.now p.3 q.3) };
 
     fn size(&self) -> u16 {
-        let m = self.first.size();
-        let n = self.second.size();
-        if n < 65535 - m { m + n } else { 65535 }
+        self.first.size().saturating_add(self.second.size())
     }
 
     fn read(&self, cell: u16) -> Result<u16, StoreFault> {
-        if cell >= self.size() {
-            return Err(StoreFault::NoCell(cell));
-        }
+        within(cell, self.size())?;
         match which_half(cell, self.first.size()) {
             Half::First(c) => self.first.read(c),
             Half::Second(c) => self.second.read(c),
@@ -62,9 +58,7 @@ impl<'a, 'b, X: Store, Y: Store> Store for Joined<'a, 'b, X, Y> {
     }
 
     fn write(&mut self, cell: u16, w: u16) -> Result<(), StoreFault> {
-        if cell >= self.size() {
-            return Err(StoreFault::NoCell(cell));
-        }
+        within(cell, self.size())?;
         match which_half(cell, self.first.size()) {
             Half::First(c) => self.first.write(c, w),
             Half::Second(c) => self.second.write(c, w),

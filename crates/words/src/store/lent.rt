@@ -4,7 +4,7 @@ ghost use Rattle.std.proofs.Common.{◌∙◌};
 ghost use Rattle.words.specs.Cells.{short_words_of, small_words_of};
 ghost use Rattle.words.specs.Stores.{words_of};
 
-use super::{Store, StoreFault};
+use super::{MOST, Store, StoreFault, within};
 
 // Those past the first 65,535 are not used.
 #[derive(Drop)]
@@ -40,24 +40,16 @@ impl<'a> Store for Words<'a> {
     ghost goes = { λ s t u p q. (q.0 ∙ p.0, q.1 ∙ p.1) };
 
     fn size(&self) -> u16 {
-        if self.cells.len() < 65535 {
-            self.cells.len() as u16
-        } else {
-            65535
-        }
+        MOST.min(self.cells.len()) as u16
     }
 
     fn read(&self, cell: u16) -> Result<u16, StoreFault> {
-        if cell >= self.size() {
-            return Err(StoreFault::NoCell(cell));
-        }
+        within(cell, self.size())?;
         Ok(at(self.cells, cell as usize))
     }
 
     fn write(&mut self, cell: u16, w: u16) -> Result<(), StoreFault> {
-        if cell >= self.size() {
-            return Err(StoreFault::NoCell(cell));
-        }
+        within(cell, self.size())?;
         put(self.cells, cell as usize, w);
         Ok(())
     }

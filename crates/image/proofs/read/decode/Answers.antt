@@ -18,7 +18,7 @@ pub returns-in_err-walk : goal.returns-in_err-walk
 returns-in_err-walk c =
     let p = err_from_is_err_and c.from_residual-in_err-walk.result c.from_residual-in_err-walk.ensures.1 in
     let d = decoded_entries (length c.args.table.now) c.args.bytes.now c.in_ok-figures.figures (rest_of c.figures.new.self) (refusal_of c.in_err-walk.field-0.0)
-    c.in_ok-figures.ensures.0 c.in_err-walk.ensures in
+    c.in_ok-figures.ensures.0 (rw c.in_ok-figures.ensures.1 at c.in_err-walk.ensures) in
     rw (p.1, p.2, d) record { answer = refl; after = refl; of = tt }
 
 pub fill-requires : goal.fill-requires

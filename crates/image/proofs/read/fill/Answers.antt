@@ -13,35 +13,35 @@ pub returns-in_err-entry : goal.returns-in_err-entry
 returns-in_err-entry c =
     let p = err_from_is_err_and c.from_residual.result c.from_residual.ensures.1 in
     rw (p.1, p.2)
-    (walk_stop c.args.cursor.now.end c.loop-i.cursor.end c.args.count c.loop-i.i _ (held c.loop-i.list) (rest_of c.loop-i.cursor) c.loop-i.invariant.0 c.loop-i.invariant.5
-    _ c.loop-i-test.true c.in_err-entry.ensures)
+    (walk_stop c.args.cursor.now.end c.loop.cursor.end c.args.count c.loop.counter _ (held c.loop.list) (rest_of c.loop.cursor) c.loop.invariant.0 c.loop.invariant.5
+    _ c.loop-test.true c.in_err-entry.ensures)
 
-pub loop-i-preserved : goal.loop-i-preserved
-loop-i-preserved c =
-    let i = c.loop-i.i in
-    let b = c.loop-i.list in
+pub loop-preserved : goal.loop-preserved
+loop-preserved c =
+    let i = c.loop.counter in
+    let b = c.loop.list in
     let x = c.in_ok-entry.entry in
-    let h : b.len < length (room b) = omega (arith, c.loop-i.invariant.1, c.loop-i.invariant.2, ap length c.new-list.ensures.room, c.requires) in
+    let h : b.len < length (room b) = omega (arith, c.loop.invariant.1, c.loop.invariant.2, ap length c.new-list.ensures.room, c.requires) in
     let p = pushed b x c.push.new.self c.push.result c.push.ensures h in
     let k : i < i + 1 = omega arith in
-    let l : b.len < i + 1 = omega (arith, c.loop-i.invariant.1) in (
-      c.in_ok-entry.ensures.1 ∙ c.loop-i.invariant.0,
-      p.1 ∙ ap (λ n. n + 1) c.loop-i.invariant.1,
-      ap length p.2 ∙ length-set (room b) b.len x ∙ c.loop-i.invariant.2,
-      p.3 ∙ c.loop-i.invariant.3,
-      ap (drop (i + 1)) p.2 ∙ drop-set-lt (i + 1) (room b) b.len x l ∙ drop_further i (room b) _ c.loop-i.invariant.4,
-      walk_on c.args.cursor.now.end c.loop-i.cursor.end c.args.count i _ (held b) (rest_of c.loop-i.cursor) c.loop-i.invariant.0 c.loop-i.invariant.5
-          x (rest_of c.entry.new.self) c.loop-i-test.true c.in_ok-entry.ensures.0
+    let l : b.len < i + 1 = omega (arith, c.loop.invariant.1) in (
+      c.in_ok-entry.ensures.1 ∙ c.loop.invariant.0,
+      p.1 ∙ ap (λ n. n + 1) c.loop.invariant.1,
+      ap length p.2 ∙ length-set (room b) b.len x ∙ c.loop.invariant.2,
+      p.3 ∙ c.loop.invariant.3,
+      ap (drop (i + 1)) p.2 ∙ drop-set-lt (i + 1) (room b) b.len x l ∙ drop_further i (room b) _ c.loop.invariant.4,
+      walk_on c.args.cursor.now.end c.loop.cursor.end c.args.count i _ (held b) (rest_of c.loop.cursor) c.loop.invariant.0 c.loop.invariant.5
+          x (rest_of c.entry.new.self) c.loop-test.true c.in_ok-entry.ensures.0
           ∙ ap (λ o. entries_at c.args.cursor.now.end (c.args.count - (i + 1)) o (rest_of c.entry.new.self)) (sym p.0),
     )
 
 pub returns : goal.returns
 returns c =
-    let d = c.loop-i.list in
-    let n : c.loop-i.i ≡ c.args.count = omega arith in
-    let q = c.table-1.given.1.1 (sym (c.loop-i.invariant.3 ∙ c.new-list.ensures.lends)) in
+    let d = c.loop.list in
+    let n : c.loop.counter ≡ c.args.count = omega arith in
+    let q = c.table-1.given.1.1 (sym (c.loop.invariant.3 ∙ c.new-list.ensures.lends)) in
     rw q
-    (filled _ c.args.count c.args.table.now (room d) c.ends.result d.len c.loop-i.i (c.loop-i.invariant.1 ∙ n) n
-    (walk_end c.args.cursor.now.end c.loop-i.cursor.end c.args.count c.loop-i.i _ (held d) (rest_of c.loop-i.cursor) c.loop-i.invariant.0 c.loop-i.invariant.5
-    c.ends.result c.loop-i-test.false (c.ends.ensures (held d)))
-    (c.loop-i.invariant.4 ∙ ap (drop c.loop-i.i) c.new-list.ensures.room))
+    (filled _ c.args.count c.args.table.now (room d) c.ends.result d.len c.loop.counter (c.loop.invariant.1 ∙ n) n
+    (walk_end c.args.cursor.now.end c.loop.cursor.end c.args.count c.loop.counter _ (held d) (rest_of c.loop.cursor) c.loop.invariant.0 c.loop.invariant.5
+    c.ends.result c.loop-test.false (c.ends.ensures (held d)))
+    (c.loop.invariant.4 ∙ ap (drop c.loop.counter) c.new-list.ensures.room))

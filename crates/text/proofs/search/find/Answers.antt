@@ -1,33 +1,36 @@
-use Rattle.std.proofs.Common.{◌<◌, [], length, sym, ap, ◌∙◌, arith, below_more}
+use Rattle.std.proofs.Common.{◌≡◌, ℕ, ◌<◌, true, false, List, [], ◌∷◌, map, length, get_or, MatchOption, None, Some, Option, sym, ◌∙◌, arith, rules, tests}
+use Rattle.std.specs.List.{AllWithin, HoldsAt}
+use Rattle.std.specs.Str.{bytes_eq}
 use Rattle.std.proofs.lemmas.List.{get_or-map, length-map}
-use Rattle.std.proofs.lemmas.Slice.Eq.{slice_eq-Decides}
 use Rattle.std.proofs.lemmas.Bool.{both_ways}
+use Rattle.std.proofs.lemmas.Slice.Eq.{bytes_eq-Decides}
+use Rattle.std.proofs.lemmas.Iterator.{IsFirst-from_position, YieldsList-from_slice}
+use Rattle.text.specs.Names.{First, Unlike}
 use Rattle.text.proofs.search.find.Goals as goal
-use Rattle.std.proofs.lemmas.Bool.Decides.{Decides-eqb}
 
-pub returns-then-eq : goal.returns-then-eq
-returns-then-eq g c =
-    let xs = c.args.table.now in
-    let i = c.loop-i.i in
-    let d = c.index-table-i.result in
-    let h : i < length xs = c.loop-i-test.true in
-    let e = (slice_eq-Decides Decides-eqb c.name.result.now c.args.name.now c.eq.result c.eq.ensures).0 c.if-eq.true in
-    let s = get_or-map g.T.Named.spelled xs i d [] h in
-    record {
-      first = (simp length-map h, s ∙ ap g.T.Named.spelled (sym c.index-table-i.is) ∙ sym c.name.ensures ∙ e, c.loop-i.invariant);
-      bound = h;
-    }
+-- the first entry with a name is the first such name among those of the entries
+module _ {A : Type 0} (spelled : A → List ℕ) (x : List ℕ) where
+  abbrev Same : A → Type 0
+  Same e = bytes_eq (spelled e) x ≡ true
 
-pub loop-i-preserved : goal.loop-i-preserved
-loop-i-preserved g c =
-    below_more _ _ c.loop-i.invariant
-    (λ p.
-    let xs = c.args.table.now in
-    let i = c.loop-i.i in
-    let d = c.index-table-i.result in
-    let s = get_or-map g.T.Named.spelled xs i d [] c.loop-i-test.true in
-    let e = c.name.ensures ∙ ap g.T.Named.spelled c.index-table-i.is ∙ sym s ∙ p in
-    both_ways c.eq.result c.if-eq.false ((slice_eq-Decides Decides-eqb c.name.result.now c.args.name.now c.eq.result c.eq.ensures).1 e))
+  abbrev Other : A → Type 0
+  Other e = bytes_eq (spelled e) x ≡ false
 
-pub returns : goal.returns
-returns g c = record { first = λ k h. c.loop-i.invariant k (omega (arith, simp length-map at h)); bound = tt }
+  unlike : (xs : List A) (d : A) (n : ℕ) → ((k : ℕ) → k < n → k < length xs) → AllWithin Other xs 0 n → Unlike (map spelled xs) x n
+  unlike xs d n m h k l p =
+      let e = get_or xs k d in
+      both_ways (bytes_eq (spelled e) x) (h k d (omega arith) l) ((bytes_eq-Decides (spelled e) x).1 (sym (get_or-map spelled xs k d [] (m k l)) ∙ p))
+
+  first_entry : (xs : List A) (r : Option ℕ) → MatchOption r (AllWithin Other xs 0 (length xs)) (λ i. (i < length xs) × HoldsAt Same xs i × AllWithin Other xs 0 i) → First (map spelled xs) x r
+  first_entry [] None h = λ k l. absurd (omega arith)
+  first_entry [] (Some i) h = absurd (omega (arith, h.0))
+  first_entry (e ∷ es) None h = simp length-map (unlike (e ∷ es) e (length (e ∷ es)) (λ k l. l) h)
+  first_entry (e ∷ es) (Some i) h =
+      let xs = e ∷ es in
+      (simp length-map h.0, get_or-map spelled xs i e [] h.0 ∙ (bytes_eq-Decides (spelled (get_or xs i e)) x).0 (h.1 e), unlike xs e i (λ k l. omega (arith, h.0)) h.2)
+
+pub returns-clause-first : goal.returns-clause-first
+returns-clause-first g c =
+    first_entry g.T.Named.spelled c.args.name.now c.args.table.now c.position.result
+    (IsFirst-from_position _ _ _ (λ e. bytes_eq (g.T.Named.spelled e) c.args.name.now ≡ true) (λ e. bytes_eq (g.T.Named.spelled e) c.args.name.now ≡ false) c.position.ensures.ran
+    (YieldsList-from_slice c.args.table.now cc) (λ x q k. search (rules, tests)) (λ x q k. search (rules, tests)))

@@ -4,8 +4,8 @@ use Rattle.image.specs.Cursors.{rest_of}
 use Rattle.image.specs.Reading.{entries_at}
 use Rattle.image.proofs.cursor.Cursor.walk.Given as goal
 
-abbrev pub invariant-loop-i : goal.invariant-loop-i
-invariant-loop-i l =
+abbrev pub invariant-loop : goal.invariant-loop
+invariant-loop l =
     (l.self.end ≡ l.initial.self.end)
     × ((o : List Instr)
-    × (entries_at l.initial.self.end l.count [] (rest_of l.initial.self) ≡ entries_at l.initial.self.end (l.count - l.i) o (rest_of l.self)))
+    × (entries_at l.initial.self.end l.count [] (rest_of l.initial.self) ≡ entries_at l.initial.self.end (l.count - l.counter) o (rest_of l.self)))

@@ -1,5 +1,5 @@
-use Rattle.std.proofs.Common.{◌+◌, ◌*◌, ◌/◌, ◌%◌, ◌<◌, length, drop, set, Ok, refl, ap, ◌∙◌, arith, rules}
-use Rattle.std.proofs.lemmas.List.{set_past, drop-set-lt}
+use Rattle.std.proofs.Common.{◌+◌, ◌*◌, ◌/◌, ◌%◌, ◌<◌, length, drop, set, Ok, refl, ap, ◌∙◌, arith}
+use Rattle.std.proofs.lemmas.List.{drop-set-lt}
 use Rattle.std.proofs.lemmas.Bool.{cond_below}
 use Rattle.words.specs.Refusals.{refuse}
 use Rattle.words.specs.Cells.{length_pairs_of, set_pairs_of}
@@ -8,9 +8,6 @@ use Rattle.words.proofs.store.bytes.BytesStore.write.Goals as goal
 
 pub put-requires : goal.put-requires
 put-requires c = omega (arith, length_pairs_of c.args.self.now.cells.now)
-
-pub returns-then-cell-size : goal.returns-then-cell-size
-returns-then-cell-size c = search (rules, set_past)
 
 pub returns : goal.returns
 returns c =

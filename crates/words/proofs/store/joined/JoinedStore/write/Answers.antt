@@ -1,17 +1,8 @@
-use Rattle.std.proofs.Common.{◌-◌, ◌<◌, length, set, refl, ap, ◌∙◌, arith, rules}
-use Rattle.std.proofs.lemmas.List.{set_past}
+use Rattle.std.proofs.Common.{◌-◌, ◌<◌, length, set, refl, ap, ◌∙◌, arith}
 use Rattle.words.specs.Cells.{length_joined_of, cell_like, set_first, set_second}
 use Rattle.words.specs.Stores.{write_of, joined_of}
 use Rattle.words.proofs.Chosen.{in_first, in_second}
 use Rattle.words.proofs.store.joined.JoinedStore.write.Goals as goal
-
-pub returns-then-cell-size : goal.returns-then-cell-size
-returns-then-cell-size g c =
-    let xs = g.X.Store.words c.args.self.now.first.now in
-    let ys = g.Y.Store.words c.args.self.now.second.now in
-    let x = g.X.Store.stays c.args.self.now.first.now in
-    let y = g.Y.Store.stays c.args.self.now.second.now in
-    search (rules, set_past)
 
 pub returns-in-First : goal.returns-in-First
 returns-in-First g c =

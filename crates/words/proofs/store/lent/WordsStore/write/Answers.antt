@@ -1,5 +1,5 @@
-use Rattle.std.proofs.Common.{◌<◌, length, drop, Ok, refl, ap, ◌∙◌, arith, rules}
-use Rattle.std.proofs.lemmas.List.{set_past, drop-set-lt}
+use Rattle.std.proofs.Common.{◌<◌, length, drop, Ok, refl, ap, ◌∙◌, arith}
+use Rattle.std.proofs.lemmas.List.{drop-set-lt}
 use Rattle.std.proofs.lemmas.Bool.{cond_below}
 use Rattle.words.specs.Cells.{length_words_of, set_words_of}
 use Rattle.words.specs.Refusals.{refuse}
@@ -8,9 +8,6 @@ use Rattle.words.proofs.store.lent.WordsStore.write.Goals as goal
 
 pub put-requires : goal.put-requires
 put-requires c = omega (arith, length_words_of c.args.self.now.cells.now)
-
-pub returns-then-cell-size : goal.returns-then-cell-size
-returns-then-cell-size c = search (rules, set_past)
 
 pub returns : goal.returns
 returns c =

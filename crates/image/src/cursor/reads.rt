@@ -1,0 +1,50 @@
+// A cursor goes over bytes and numbers.
+ghost use Rattle.std.specs.Prelude.{◌≡◌, ◌-◌, true, length};
+ghost use Rattle.image.specs.Cursors.{ByteTaken, Took, rest_of};
+ghost use Rattle.image.specs.Groups.{number, zeros_first};
+
+use crate::cursor::Cursor;
+use crate::fault::ImageFault;
+
+impl<'a> Cursor<'a> {
+    pub(crate) fn place(&self) -> usize
+        ensures { result ≡ self.now.end - length (rest_of self.now) }
+    {
+        self.end - self.rest.len()
+    }
+
+    fn byte(&mut self) -> Option<u8>
+        ensures { ByteTaken self.old self.new result }
+    {
+        let (b, rest) = self.rest.split_first()?;
+        self.rest = rest;
+        Some(*b)
+    }
+
+    fn zeros_first(&self) -> bool
+        ensures { result ≡ zeros_first (rest_of self.now) }
+    {
+        self.rest.first() == Some(&128)
+    }
+
+    // The number at the front.
+    pub(crate) fn number(&mut self) -> Result<u16, ImageFault>
+        ensures { Took (number self.old.end (rest_of self.old)) self.old self.new result }
+    {
+        let at = self.place();
+        if self.zeros_first() {
+            return Err(ImageFault::LeadingZeros(at));
+        }
+        let mut n = 0u32;
+        while let Some(b) = self.byte() {
+            n = n * 128 + (b % 128) as u32;
+            if n > 65535 {
+                return Err(ImageFault::TooLarge(at));
+            }
+            if b < 128 {
+                return Ok(n as u16);
+            }
+        }
+        Err(ImageFault::CutShort(self.end))
+    }
+}
