@@ -3,6 +3,7 @@ ghost use Rattle.std.specs.Prelude.{◌≡◌};
 ghost use Rattle.machine.specs.declared.ending.Ending.TheVariants.{Stopped, BadOperand, Outside};
 ghost use Rattle.machine.specs.Endings.{number_of};
 
+use arith::relation::UnknownRelation;
 use arith::stop::Stop;
 use words::op::UnknownOp;
 use words::store::StoreFault;
@@ -28,7 +29,7 @@ impl From<Ending> for u8 {
     fn from(e: Ending) -> u8 {
         match e {
             Ending::Halted => 0,
-            Ending::Stopped(stop) => stop.number(),
+            Ending::Stopped(stop) => u8::from(stop),
             Ending::Missing => 6,
             Ending::TooHigh => 7,
             Ending::BadOperand => 8,
@@ -58,5 +59,13 @@ impl From<StoreFault> for Ending {
 
     fn from(_e: StoreFault) -> Ending {
         Ending::Outside
+    }
+}
+
+impl From<UnknownRelation> for Ending {
+    ghost from_gives = { λ _ r. r ≡ BadOperand };
+
+    fn from(_e: UnknownRelation) -> Ending {
+        Ending::BadOperand
     }
 }

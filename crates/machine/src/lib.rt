@@ -2,13 +2,9 @@
 #![tactic(auto)]
 
 mod act;
-mod bitwise;
-mod control;
 pub mod ending;
 pub mod laws;
-mod memory;
-mod numeric;
-mod parts;
 pub mod run;
 pub mod step;
+mod view;
 pub mod vm;
