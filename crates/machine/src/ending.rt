@@ -3,7 +3,6 @@ ghost use Rattle.std.specs.Prelude.{◌≡◌};
 ghost use Rattle.machine.specs.declared.ending.Ending.TheVariants.{Stopped, BadOperand, Outside};
 ghost use Rattle.machine.specs.Endings.{number_of};
 
-use arith::relation::UnknownRelation;
 use arith::stop::Stop;
 use words::op::UnknownOp;
 use words::store::StoreFault;
@@ -59,13 +58,5 @@ impl From<StoreFault> for Ending {
 
     fn from(_e: StoreFault) -> Ending {
         Ending::Outside
-    }
-}
-
-impl From<UnknownRelation> for Ending {
-    ghost from_gives = { λ _ r. r ≡ BadOperand };
-
-    fn from(_e: UnknownRelation) -> Ending {
-        Ending::BadOperand
     }
 }

@@ -99,24 +99,15 @@ impl<S: Store> View<'_, S> {
             Op::Lmul => Ok(push(2, logical::mul(y, x))),
             Op::Ldiv => Ok(push(2, logical::div(y, x)?)),
             Op::Lrem => Ok(push(2, logical::rem(y, x)?)),
-            Op::Cmp => Ok(push(2, compare(Relation::try_from(a)?, y, x))),
-            Op::Lcmp => Ok(push(2, compare_logical(Relation::try_from(a)?, y, x))),
+            Op::Cmp => Ok(push(2, compare(Relation::try_from(a).unwrap(), y, x))),
+            Op::Lcmp => Ok(push(2, compare_logical(Relation::try_from(a).unwrap(), y, x))),
             Op::And => Ok(push(2, bits::and(y, x))),
             Op::Or => Ok(push(2, bits::or(y, x))),
             Op::Xor => Ok(push(2, bits::xor(y, x))),
             Op::Not => Ok(push(1, bits::complement(x))),
-            Op::Fld => {
-                let field = Field::new(a, b).ok_or(Ending::BadOperand)?;
-                Ok(push(1, field.extract(x)))
-            }
-            Op::Dep => {
-                let field = Field::new(a, b).ok_or(Ending::BadOperand)?;
-                Ok(push(2, field.deposit(y, x)))
-            }
-            Op::Shf => {
-                let shift = Shift::new(a, b).ok_or(Ending::BadOperand)?;
-                Ok(push(1, shift.apply(x)))
-            }
+            Op::Fld => Ok(push(1, Field::new(a, b).unwrap().extract(x))),
+            Op::Dep => Ok(push(2, Field::new(a, b).unwrap().deposit(y, x))),
+            Op::Shf => Ok(push(1, Shift::new(a, b).unwrap().apply(x))),
             Op::Br => Ok(on(0, u32::from(a))),
             Op::Bre => {
                 if odd(x) {
