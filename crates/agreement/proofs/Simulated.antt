@@ -111,13 +111,8 @@ same_then (Err e) f g h = refl
 same_moved : (i : Instr) (p h : ℕ) (st σ : List ℕ) → moved i p h st σ ≡ acting i p (stack_of h st) σ
 same_moved i p h st σ = same_then (decoded i.number) _ _ (λ o. same_row o i.a i.b p h st σ)
 
-tells_fetched : (d : ℕ) (s : State) (b : Bool) (r : Result Move Ending) → d ≤ length s.stack →
-    Tells s (lay d s.vm.place (stacked s) s.cells (cond b r (Err Outside))) (cond b (then r (λ m. made d m s)) (Err Outside))
-tells_fetched d s true r l = tells_then d s r l
-tells_fetched d s false r l = tells_halt
-
 pub tells : (P : List Instr) (d : ℕ) (s : State) → d ≤ length s.stack → Tells s (move P d (view s) s.cells) (goes P d s)
 unfolding move goes
 tells P d s l =
     rw (sym (same_moved (get_or P s.vm.place blank) s.vm.place s.vm.height s.stack s.cells))
-    (tells_fetched d s (ltb s.vm.place (length P)) (moved (get_or P s.vm.place blank) s.vm.place s.vm.height s.stack s.cells) l)
+    (tells_then d s (cond (ltb s.vm.place (length P)) (moved (get_or P s.vm.place blank) s.vm.place s.vm.height s.stack s.cells) (Err Outside)) l)

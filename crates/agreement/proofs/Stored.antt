@@ -12,7 +12,7 @@ use Rattle.machine.specs.declared.vm.Move.TheVariants.{On, Push, Write as Puts}
 use Rattle.words.specs.declared.op.Op.{Op}
 use Rattle.words.specs.declared.op.Op.TheVariants.{Halt, Lit, Load, Stor, Ldx, Stx, Chk, Dup, Drop, Add, Sub, Mul, Div, Rem, Neg, Ladd, Lsub, Lmul, Ldiv, Lrem, Cmp, Lcmp, And, Or, Xor, Not, Fld, Dep, Shf, Br, Bre, Case, For, Next}
 use Rattle.machine.specs.Table.{known, decoded, then, fine, wants, stopped, cell_of, push, act, row, moved}
-use Rattle.machine.specs.Machine.{State, made, goes, counted, settled, stepped, step, run}
+use Rattle.machine.specs.Machine.{State, made, fetched, goes, counted, settled, stepped, step, run}
 use Rattle.meaning.specs.Effects.{Store}
 use Rattle.agreement.specs.Agreement.{after}
 use Rattle.agreement.specs.Sessions.{storing, writing, writes_in}
@@ -134,6 +134,15 @@ kinded_moved i p h st σ =
     kinded_nth ops i.number 0 i.number marked (omega arith) (λ o. row o i.a i.b p h st σ)
     (λ o. kinded_readied (stores o) (fine o i.a i.b) (leb (wants o i.a) h) _ (kinded_act o i.a i.b p (get_or st (h - 1) 0) (get_or st (h - 2) 0) σ))
 
+kinded_cond : (b f : Bool) (r : Result Move Ending) → Kinded b r → Kinded b (cond f r (Err Outside))
+kinded_cond b true r h = h
+kinded_cond b false r h = tt
+
+kinded_fetched : (P : List Instr) (s : State) → Kinded (storing (get_or P s.vm.place blank).number) (fetched P s)
+kinded_fetched P s =
+    let i = get_or P s.vm.place blank in
+    kinded_cond (storing i.number) (ltb s.vm.place (length P)) (moved i s.vm.place s.vm.height s.stack s.cells) (kinded_moved i s.vm.place s.vm.height s.stack s.cells)
+
 -- the count of writes goes up by one where b says so
 abbrev Counts : Bool → State → Result State Ending → Type 0
 Counts b s (Ok t) = (t.vm.writes ≡ s.vm.writes + cond b 1 0) × (t.vm.ending ≡ s.vm.ending)
@@ -152,16 +161,9 @@ counts_then : (b : Bool) (d : ℕ) (s : State) (r : Result Move Ending) → Kind
 counts_then b d s (Ok m) h = subst (λ (c : Bool). Counts c s (made d m s)) h (counts_made d m s)
 counts_then b d s (Err e) h = tt
 
-counts_fetched : (b f : Bool) (s : State) (r : Result State Ending) → Counts b s r → Counts b s (cond f r (Err Outside))
-counts_fetched b true s r h = h
-counts_fetched b false s r h = tt
-
 counts_goes : (P : List Instr) (d : ℕ) (s : State) → Counts (storing (get_or P s.vm.place blank).number) s (goes P d s)
 unfolding goes
-counts_goes P d s =
-    let i = get_or P s.vm.place blank in
-    counts_fetched (storing i.number) (ltb s.vm.place (length P)) s (then (moved i s.vm.place s.vm.height s.stack s.cells) (λ m. made d m s))
-    (counts_then (storing i.number) d s (moved i s.vm.place s.vm.height s.stack s.cells) (kinded_moved i s.vm.place s.vm.height s.stack s.cells))
+counts_goes P d s = counts_then (storing (get_or P s.vm.place blank).number) d s (fetched P s) (kinded_fetched P s)
 
 counts_settled : (b : Bool) (s : State) (r : Result State Ending) → s.vm.ending ≡ None → Counts b s r → (settled r s).vm.writes ≡ s.vm.writes + cond (cond (is_some (settled r s).vm.ending) false b) 1 0
 counts_settled b s (Ok t) q h = rw (h.1, q) h.0

@@ -1,13 +1,13 @@
 -- What one step keeps, whatever the instruction.
-use Rattle.std.proofs.Common.{◌≡◌, ℕ, ◌+◌, ◌-◌, ◌<◌, ◌≤◌, Bool, true, false, cond, ltb, List, length, get_or, is_some, Some, None, Ok, Err, Option, Result, sym, refl, ap, ◌∙◌, inl, inr, arith}
-use Rattle.std.proofs.lemmas.Bool.{ltb-true, lt-ltb, le-ltb, cond-true, cond-false, true≢false, false≢true}
+use Rattle.std.proofs.Common.{◌≡◌, ℕ, ◌+◌, ◌-◌, ◌≤◌, Bool, true, false, cond, ltb, List, length, is_some, Some, None, Ok, Err, Option, Result, sym, refl, ap, ◌∙◌, inl, inr, arith}
+use Rattle.std.proofs.lemmas.Bool.{ltb-true, le-ltb, cond-false, true≢false, false≢true}
 use Rattle.words.specs.declared.instr.Instr.{Instr}
 use Rattle.machine.specs.declared.ending.Ending.{Ending}
 use Rattle.machine.specs.declared.ending.Ending.TheVariants.{TooHigh, Outside}
 use Rattle.machine.specs.declared.vm.Move.{Move}
 use Rattle.machine.specs.declared.vm.Move.TheVariants.{On, Push, Write}
-use Rattle.machine.specs.Table.{then, moved}
-use Rattle.machine.specs.Machine.{State, made, goes, counted, ended, settled, stepped, step}
+use Rattle.machine.specs.Table.{then}
+use Rattle.machine.specs.Machine.{State, made, fetched, goes, counted, ended, settled, stepped, step}
 use Rattle.machine.specs.Laws.{Stays, Wrote, Pushed}
 
 -- a move that is made has Q
@@ -23,15 +23,9 @@ has_then : (Q : State → Type 0) (r : Result Move Ending) (f : Move → Result 
 has_then Q (Ok m) f h = h m
 has_then Q (Err e) f h = tt
 
-has_fetch : (Q : State → Type 0) (b : Bool) (r : Result State Ending) → Has Q r → Has Q (cond b r (Err Outside))
-has_fetch Q true r k = k
-has_fetch Q false r k = tt
-
 has_goes : (Q : State → Type 0) (P : List Instr) (d : ℕ) (s : State) → ((m : Move) → Has Q (made d m s)) → Has Q (goes P d s)
 unfolding goes
-has_goes Q P d s h =
-    has_fetch Q (ltb s.vm.place (length P)) (then (moved (get_or P s.vm.place record { number = 0; a = 0; b = 0 }) s.vm.place s.vm.height s.stack s.cells) (λ m. made d m s))
-    (has_then Q (moved (get_or P s.vm.place record { number = 0; a = 0; b = 0 }) s.vm.place s.vm.height s.stack s.cells) (λ m. made d m s) h)
+has_goes Q P d s h = has_then Q (fetched P s) (λ m. made d m s) h
 
 -- what a move does
 record Did (d : ℕ) (s t : State) : Type 0 where
@@ -104,14 +98,13 @@ ends_step P d s e n =
 
 -- what the code finds is what is defined
 
-pub goes_past : (P : List Instr) (d : ℕ) (s : State) → length P ≤ s.vm.place → goes P d s ≡ Err Outside
+pub goes_by : (P : List Instr) (d : ℕ) (s : State) (r : Result Move Ending) → r ≡ fetched P s → goes P d s ≡ then r (λ m. made d m s)
 unfolding goes
-goes_past P d s h = cond-false (ltb s.vm.place (length P)) _ _ (le-ltb _ _ h)
+goes_by P d s r e = ap (λ (q : Result Move Ending). then q (λ m. made d m s)) (sym e)
 
-pub goes_at : (P : List Instr) (d : ℕ) (s : State) (r : Result Move Ending) → s.vm.place < length P →
-    r ≡ moved (get_or P s.vm.place record { number = 0; a = 0; b = 0 }) s.vm.place s.vm.height s.stack s.cells → goes P d s ≡ then r (λ m. made d m s)
+goes_past : (P : List Instr) (d : ℕ) (s : State) → length P ≤ s.vm.place → goes P d s ≡ Err Outside
 unfolding goes
-goes_at P d s r h e = cond-true (ltb s.vm.place (length P)) _ _ (lt-ltb _ _ h) ∙ ap (λ (q : Result Move Ending). then q (λ m. made d m s)) (sym e)
+goes_past P d s h = ap (λ (q : Result Move Ending). then q (λ m. made d m s)) (cond-false (ltb s.vm.place (length P)) _ _ (le-ltb _ _ h))
 
 pub step_ok : (P : List Instr) (d : ℕ) (s t : State) → s.vm.ending ≡ None → goes P d (counted s) ≡ Ok t → t ≡ step P d s
 unfolding step

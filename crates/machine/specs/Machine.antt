@@ -28,12 +28,13 @@ made d (Push k w) s =
     cond (nat_lt (s.vm.height - k) d) (Ok (state (at s.vm (s.vm.place + 1) (s.vm.height - k + 1) s.vm.writes) (slice_set s.stack (s.vm.height - k) w) s.cells)) (Err TooHigh)
 made d (Write k c w q) s = cond (nat_lt c (length s.cells)) (Ok (state (at s.vm q (s.vm.height - k) (s.vm.writes + 1)) s.stack (slice_set s.cells c w))) (Err Outside)
 
--- what the step does that is not its count: the move of the instruction, or an ending
+-- the move of the instruction at the place; past the code there is none
+abbrev pub fetched : List Instr → State → Result Move Ending
+fetched P s = cond (nat_lt s.vm.place (length P)) (moved (slice_index_or P s.vm.place record { number = 0; a = 0; b = 0 }) s.vm.place s.vm.height s.stack s.cells) (Err Outside)
+
+-- what the step does that is not its count: that move, or an ending
 unfoldable pub goes : List Instr → ℕ → State → Result State Ending
-goes P d s =
-    cond (nat_lt s.vm.place (length P))
-    (then (moved (slice_index_or P s.vm.place record { number = 0; a = 0; b = 0 }) s.vm.place s.vm.height s.stack s.cells) (λ m. made d m s))
-    (Err Outside)
+goes P d s = then (fetched P s) (λ m. made d m s)
 
 -- one more step is counted
 abbrev pub counted : State → State
@@ -59,14 +60,14 @@ unfoldable pub run : List Instr → ℕ → ℕ → State → State
 run P d zero s = s
 run P d (suc n) s = step P d (run P d n s)
 
--- whether a step can be made: the stack has room for the depth and is not above it, the code is not too long, and
+-- whether n steps can be made: the code is not too long, the stack has room for the depth and is not above it, and
 -- the counts are in order
-abbrev pub able : List Instr → ℕ → State → Bool
-able P d s = nat_le (length P) 16383 && (nat_le d (length s.stack) && (nat_le s.vm.height d && (nat_lt s.vm.steps 4000000000 && nat_le s.vm.writes s.vm.steps)))
-
--- whether n steps can be made
 abbrev pub able_for : ℕ → List Instr → ℕ → State → Bool
 able_for n P d s = nat_le (length P) 16383 && (nat_le d (length s.stack) && (nat_le s.vm.height d && (nat_le (s.vm.steps + n) 4000000000 && nat_le s.vm.writes s.vm.steps)))
+
+-- whether one can
+abbrev pub able : List Instr → ℕ → State → Bool
+able P d s = able_for 1 P d s
 
 -- a step answers the registers after it; where none can be made, nothing changes
 abbrev pub Steps : Option Vm → Bool → State → List ℕ → List ℕ → State → Type 0

@@ -4,6 +4,7 @@
 mod act;
 pub mod ending;
 pub mod laws;
+pub mod machine;
 pub mod run;
 pub mod step;
 mod view;

@@ -2,10 +2,13 @@
 ghost use Rattle.std.specs.Prelude.{◌≡◌};
 ghost use Rattle.machine.specs.Machine.{state, run as run_of, able_for, Steps};
 
-use super::step::cycle;
+use super::machine::Machine;
 use super::vm::Vm;
 use words::instr::Instr;
 use words::store::Store;
+
+// Steps that a machine makes at most.
+const LIMIT: u64 = 4000000000;
 
 // Makes `steps` steps from the registers `vm`, fewer only if the run ends, and answers the registers after them. There is
 // no answer, and nothing changes, where `step` would have none, or where the steps would pass 4,000,000,000 in all.
@@ -23,15 +26,16 @@ pub fn run<S: Store>(
     if code.len() > 16383 || stack.len() < depth as usize || vm.height > depth {
         return None;
     }
-    if steps > 4000000000 || vm.steps > 4000000000 - steps || vm.writes > vm.steps {
+    if steps > LIMIT || vm.steps > LIMIT - steps || vm.writes > vm.steps {
         return None;
     }
-    let mut after = vm;
-    for i in 0..steps {
-        if after.ending.is_some() {
-            return Some(after);
-        }
-        cycle(&mut after, depth, code, stack, store);
-    }
-    Some(after)
+    let mut machine = Machine {
+        code,
+        depth,
+        stack,
+        store,
+        vm,
+    };
+    machine.run(steps);
+    Some(machine.vm)
 }
