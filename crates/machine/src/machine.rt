@@ -6,6 +6,9 @@ use words::instr::Instr;
 
 mod steps;
 
+// The steps of a machine at most.
+pub const LIMIT: u64 = 4000000000;
+
 // Its code, the depth of its stack, the words lent for that, its store, and the registers.
 #[derive(Drop)]
 pub struct Machine<'a, 'b, 'c, S> {

@@ -2,13 +2,10 @@
 ghost use Rattle.std.specs.Prelude.{◌≡◌};
 ghost use Rattle.machine.specs.Machine.{state, run as run_of, able_for, Steps};
 
-use super::machine::Machine;
+use super::machine::{LIMIT, Machine};
 use super::vm::Vm;
 use words::instr::Instr;
 use words::store::Store;
-
-// Steps that a machine makes at most.
-const LIMIT: u64 = 4000000000;
 
 // Makes `steps` steps from the registers `vm`, fewer only if the run ends, and answers the registers after them. There is
 // no answer, and nothing changes, where `step` would have none, or where the steps would pass 4,000,000,000 in all.

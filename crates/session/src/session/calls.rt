@@ -3,65 +3,53 @@ ghost use Rattle.std.specs.Prelude.{◌≡◌, ◌≤◌, length};
 ghost use Rattle.words.specs.Refusals.{told};
 ghost use Rattle.words.specs.Stores.{read_of, refusal_of};
 ghost use Rattle.machine.specs.Machine.{state};
-ghost use Rattle.session.specs.Sessions.{fitting, resumed, Starts, Resumes};
+ghost use Rattle.session.specs.Sessions.{fitting, unless, resumed, Starts, Resumes};
 
 use crate::fault::SessionFault;
 use crate::session::Session;
-use machine::run::run;
+use machine::machine::{LIMIT, Machine};
 use machine::vm::Vm;
+use words::code::Code;
 use words::instr::Instr;
 use words::store::{Store, StoreFault};
 
-// Steps of a session at most.
-const MOST: u64 = 4000000000;
-
-// What of the code, the stack or the store will not do.
-fn misfit<S: Store>(
-    cells: u16,
-    depth: u16,
-    code: &[Instr],
-    stack: &[u16],
-    store: &S,
-) -> Option<SessionFault>
-    ensures { result ≡ fitting cells depth (length code.now) (length stack.now) (length (S.Store.words store.now)) }
+// Whether the code, the stack and the store will do.
+fn fit<S: Store>(code: Code<'_>, stack: &[u16], store: &S) -> Result<(), SessionFault>
+    ensures { result ≡ unless (fitting code.entry.cells code.entry.depth (length code.entry.instructions.now) (length stack.now) (length (S.Store.words store.now))) tt }
 {
-    if code.len() == 0 || code.len() > 16383 {
-        return Some(SessionFault::BadCode);
+    if code.instructions.is_empty() || code.instructions.len() > 16383 {
+        return Err(SessionFault::BadCode);
     }
-    if stack.len() < depth as usize {
-        return Some(SessionFault::ShortStack);
+    if stack.len() < code.depth as usize {
+        return Err(SessionFault::ShortStack);
     }
-    if store.size() < cells {
-        return Some(SessionFault::ShortStore);
+    if store.size() < code.cells {
+        return Err(SessionFault::ShortStore);
     }
-    None
+    Ok(())
 }
 
 impl Session {
     // A session at instruction 0 with an empty stack.
     pub(crate) fn start<S: Store>(
-        cells: u16,
-        depth: u16,
-        code: &[Instr],
+        code: Code<'_>,
         stack: &[u16],
         store: &S,
     ) -> Result<Session, SessionFault>
-        ensures { Starts result cells depth (fitting cells depth (length code.now) (length stack.now) (length (S.Store.words store.now))) }
+        ensures { Starts result code.entry.cells code.entry.depth (fitting code.entry.cells code.entry.depth (length code.entry.instructions.now) (length stack.now) (length (S.Store.words store.now))) }
     {
-        match misfit(cells, depth, code, stack, store) {
-            Some(e) => Err(e),
-            None => Ok(Session {
-                cells,
-                depth,
-                vm: Vm {
-                    place: 0,
-                    height: 0,
-                    steps: 0,
-                    writes: 0,
-                    ending: None,
-                },
-            }),
-        }
+        fit(code, stack, store)?;
+        Ok(Session {
+            cells: code.cells,
+            depth: code.depth,
+            vm: Vm {
+                place: 0,
+                height: 0,
+                steps: 0,
+                writes: 0,
+                ending: None,
+            },
+        })
     }
 
     // Instruction, height, steps, cell writes, and the ending once there is one.
@@ -91,26 +79,31 @@ impl Session {
         ensures depth { self.new.depth ≡ self.old.depth }
         ensures keeps { S.Store.keeps store.old store.new }
     {
-        if let Some(e) = misfit(self.cells, self.depth, code, stack, store) {
-            return Err(e);
-        }
+        let begun = Code {
+            cells: self.cells,
+            depth: self.depth,
+            instructions: code,
+        };
+        fit(begun, stack, store)?;
         if limit == 0 {
             return Err(SessionFault::NoSteps);
         }
         if self.vm.ending.is_some() {
             return Err(SessionFault::Ended);
         }
-        if self.vm.steps >= MOST {
+        if self.vm.steps >= LIMIT {
             return Err(SessionFault::UsedUp);
         }
-        let granted = limit.min(MOST - self.vm.steps);
-        match run(code, self.depth, stack, store, self.vm, granted) {
-            Some(vm) => {
-                self.vm = vm;
-                Ok(vm)
-            }
-            // never: all that it asks was looked at above
-            None => Err(SessionFault::UsedUp),
-        }
+        let granted = limit.min(LIMIT - self.vm.steps);
+        let mut machine = Machine {
+            code,
+            depth: self.depth,
+            stack,
+            store,
+            vm: self.vm,
+        };
+        machine.run(granted);
+        self.vm = machine.vm;
+        Ok(self.vm)
     }
 }
