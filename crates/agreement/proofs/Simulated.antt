@@ -11,7 +11,7 @@ use Rattle.words.specs.declared.op.Op.TheVariants.{Halt, Lit, Load, Stor, Ldx, S
 use Rattle.machine.specs.Table.{decoded, then, fine, wants, readied, act, row, moved}
 use Rattle.machine.specs.Machine.{State, made, goes}
 use Rattle.machine.specs.Stacks.{stack_of, hd, tl, off, stacked}
-use Rattle.machine.proofs.Views.{length_stack_of, top_is, next_is, push_stack_of}
+use Rattle.machine.proofs.Views.{length_stack_of, top_is, next_is, off_stack_of, push_stack_of}
 use Rattle.meaning.specs.Effects.{Write, leave}
 use Rattle.agreement.proofs.Moves.{Pos, at, Way, on, halt, laid, lay, acting, blank, move}
 
@@ -23,11 +23,6 @@ pub data Tells (s : State) : Way → Result State Ending → Type 0 where
   tells_on : {ws : List Write} {c : Pos} {t : State} →
       view t ≡ c → t.cells ≡ leave ws s.cells → t.vm.writes ≡ s.vm.writes + length ws → t.vm.ending ≡ s.vm.ending → length t.stack ≡ length s.stack → Tells s (on ws c) (Ok t)
   tells_halt : {e : Ending} → Tells s (halt e) (Err e)
-
-off_stack_of : (k h : ℕ) (st : List ℕ) → off k (stack_of h st) ≡ stack_of (h - k) st
-off_stack_of zero h st = let e : h ≡ h - 0 = omega arith in ap (λ (j : ℕ). stack_of j st) e
-off_stack_of (suc k) zero st = let e : zero - k ≡ zero - suc k = omega arith in off_stack_of k zero st ∙ ap (λ (j : ℕ). stack_of j st) e
-off_stack_of (suc k) (suc h) st = let e : h - k ≡ suc h - suc k = omega arith in off_stack_of k h st ∙ ap (λ (j : ℕ). stack_of j st) e
 
 length_off : (k h : ℕ) (st : List ℕ) → length (off k (stack_of h st)) ≡ h - k
 length_off k h st = ap length (off_stack_of k h st) ∙ length_stack_of (h - k) st

@@ -21,10 +21,10 @@ next_is zero st l = absurd (omega arith)
 next_is (suc zero) st l = absurd (omega arith)
 next_is (suc (suc h)) st l = let e : suc (suc h) - 2 ≡ h = omega arith in ap (λ (k : ℕ). get_or st k 0) e
 
-pub off_stack_of : (k h : ℕ) (st : List ℕ) → k ≤ h → off k (stack_of h st) ≡ stack_of (h - k) st
-off_stack_of zero h st l = let e : h ≡ h - 0 = omega arith in ap (λ (j : ℕ). stack_of j st) e
-off_stack_of (suc k) zero st l = absurd (omega arith)
-off_stack_of (suc k) (suc h) st l = let e : h - k ≡ suc h - suc k = omega arith in off_stack_of k h st (omega arith) ∙ ap (λ (j : ℕ). stack_of j st) e
+pub off_stack_of : (k h : ℕ) (st : List ℕ) → off k (stack_of h st) ≡ stack_of (h - k) st
+off_stack_of zero h st = let e : h ≡ h - 0 = omega arith in ap (λ (j : ℕ). stack_of j st) e
+off_stack_of (suc k) zero st = let e : zero - k ≡ zero - suc k = omega arith in off_stack_of k zero st ∙ ap (λ (j : ℕ). stack_of j st) e
+off_stack_of (suc k) (suc h) st = let e : h - k ≡ suc h - suc k = omega arith in off_stack_of k h st ∙ ap (λ (j : ℕ). stack_of j st) e
 
 -- what lies at h and above does not show
 pub set_above : (h j w : ℕ) (st : List ℕ) → h ≤ j → stack_of h (set st j w) ≡ stack_of h st
@@ -45,8 +45,8 @@ shows_cond m s t true e h = h refl
 shows_cond m s t false e h = tt
 
 pub shows : (d : ℕ) (m : Move) (s : State) → pops m ≤ s.vm.height → d ≤ length s.stack → Shows m s (made d m s)
-shows d (On k q) s p l = sym (off_stack_of k s.vm.height s.stack p)
+shows d (On k q) s p l = sym (off_stack_of k s.vm.height s.stack)
 shows d (Push k w) s p l =
     shows_cond (Push k w) s _ (ltb (s.vm.height - k) d) _
-    (λ e. push_stack_of (s.vm.height - k) w s.stack (omega (arith, ltb-true (s.vm.height - k) d e)) ∙ ap (λ (r : List ℕ). w ∷ r) (sym (off_stack_of k s.vm.height s.stack p)))
-shows d (Write k c w q) s p l = shows_cond (Write k c w q) s _ (ltb c (length s.cells)) _ (λ e. sym (off_stack_of k s.vm.height s.stack p))
+    (λ e. push_stack_of (s.vm.height - k) w s.stack (omega (arith, ltb-true (s.vm.height - k) d e)) ∙ ap (λ (r : List ℕ). w ∷ r) (sym (off_stack_of k s.vm.height s.stack)))
+shows d (Write k c w q) s p l = shows_cond (Write k c w q) s _ (ltb c (length s.cells)) _ (λ e. sym (off_stack_of k s.vm.height s.stack))

@@ -54,10 +54,11 @@ impl<S: Store> Machine<'_, '_, '_, S> {
         ensures place { IfOk result (λ _. self.now.vm.place < length self.now.code.now) }
     {
         let place = self.vm.place;
-        if place as usize >= self.code.len() {
-            return Err(Ending::Outside);
-        }
-        let i = self.code[place as usize];
+        let i = self
+            .code
+            .get(place as usize)
+            .copied()
+            .ok_or(Ending::Outside)?;
         act(i, place, self.vm.height, self.stack, self.store)
     }
 
