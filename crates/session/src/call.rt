@@ -1,12 +1,12 @@
 // Calls and their answers as values, and lists of them.
 ghost use Rattle.std.specs.Prelude.{◌≡◌};
-ghost use Rattle.machine.specs.Machine.{state};
+ghost use Rattle.session.specs.Lent.{state_of, Lasts};
 ghost use Rattle.session.specs.Calls.{answer_of, left_by, Plays};
 
 use crate::fault::{CallFault, TooFewPlaces};
+use crate::lent::Lent;
 use crate::session::Session;
 use machine::vm::Vm;
-use words::instr::Instr;
 use words::store::Store;
 
 #[derive(Clone, Copy, PartialEq, Eq, Debug)]
@@ -30,24 +30,20 @@ impl Session {
     // Makes one call.
     pub(crate) fn call<S: Store>(
         &mut self,
-        code: &[Instr],
-        stack: &mut [u16],
-        store: &mut S,
+        lent: &mut Lent<'_, '_, '_, S>,
         call: Call,
     ) -> Result<Answer, CallFault>
-        ensures answer { result ≡ answer_of self.old.cells self.old.depth code.now call (state self.old.vm stack.old (S.Store.words store.old)) }
-        ensures left { state self.new.vm stack.new (S.Store.words store.new) ≡ left_by self.old.cells self.old.depth code.now call (state self.old.vm stack.old (S.Store.words store.old)) }
-        ensures cells { self.new.cells ≡ self.old.cells }
-        ensures depth { self.new.depth ≡ self.old.depth }
-        ensures keeps { S.Store.keeps store.old store.new }
+        ensures answer { result ≡ answer_of self.old.cells self.old.depth lent.old.code.now call (state_of S.Store.words self.old lent.old) }
+        ensures left { state_of S.Store.words self.new lent.new ≡ left_by self.old.cells self.old.depth lent.old.code.now call (state_of S.Store.words self.old lent.old) }
+        ensures lasts { Lasts S.Store.keeps self.old self.new lent.old lent.new }
     {
         match call {
             Call::Resume(limit) => {
-                let vm = self.resume(code, stack, store, limit)?;
+                let vm = self.resume(lent, limit)?;
                 Ok(Answer::Registers(vm))
             }
             Call::Look(cell) => {
-                let w = self.look(store, cell)?;
+                let w = self.look(lent.store, cell)?;
                 Ok(Answer::Word(w))
             }
             Call::Report => Ok(Answer::Registers(self.report())),
@@ -58,22 +54,18 @@ impl Session {
     // few places it makes none, and nothing changes.
     pub(crate) fn play<S: Store>(
         &mut self,
-        code: &[Instr],
-        stack: &mut [u16],
-        store: &mut S,
+        lent: &mut Lent<'_, '_, '_, S>,
         calls: &[Call],
         answers: &mut [Result<Answer, CallFault>],
     ) -> Result<(), TooFewPlaces>
-        ensures did { Plays result self.old.cells self.old.depth code.now calls.now (state self.old.vm stack.old (S.Store.words store.old)) (state self.new.vm stack.new (S.Store.words store.new)) answers.old answers.new }
-        ensures cells { self.new.cells ≡ self.old.cells }
-        ensures depth { self.new.depth ≡ self.old.depth }
-        ensures keeps { S.Store.keeps store.old store.new }
+        ensures did { Plays result self.old.cells self.old.depth lent.old.code.now calls.now (state_of S.Store.words self.old lent.old) (state_of S.Store.words self.new lent.new) answers.old answers.new }
+        ensures lasts { Lasts S.Store.keeps self.old self.new lent.old lent.new }
     {
         if answers.len() < calls.len() {
             return Err(TooFewPlaces);
         }
         for (i, call) in calls.iter().enumerate() {
-            answers[i] = self.call(code, stack, store, *call);
+            answers[i] = self.call(lent, *call);
         }
         Ok(())
     }

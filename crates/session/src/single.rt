@@ -3,6 +3,7 @@ ghost use Rattle.std.specs.Prelude.{◌≡◌, length, replicate};
 ghost use Rattle.session.specs.Sessions.{Runs, single as single_of};
 
 use crate::fault::SessionFault;
+use crate::lent::Lent;
 use crate::session::Session;
 use machine::vm::Vm;
 use words::code::Code;
@@ -31,8 +32,13 @@ fn once<S: Store>(
     ensures did { Runs result (S.Store.words store.old) (S.Store.words store.new) (single_of code.entry.cells code.entry.depth code.entry.instructions.now limit stack.old (S.Store.words store.old)) }
     ensures keeps { S.Store.keeps store.old store.new }
 {
-    let mut session = Session::start(code, stack, store)?;
-    session.resume(code.instructions, stack, store, limit)
+    let mut lent = Lent {
+        code: code.instructions,
+        stack,
+        store,
+    };
+    let mut session = Session::start(code.cells, code.depth, &lent)?;
+    session.resume(&mut lent, limit)
 }
 
 // Starts and resumes once. The stack words are all zero afterwards, on every way out.

@@ -2,46 +2,47 @@
 ghost use Rattle.std.specs.Prelude.{◌≡◌, ◌≤◌, length};
 ghost use Rattle.words.specs.Refusals.{told};
 ghost use Rattle.words.specs.Stores.{read_of, refusal_of};
-ghost use Rattle.machine.specs.Machine.{state};
+ghost use Rattle.session.specs.Lent.{state_of, Lasts};
 ghost use Rattle.session.specs.Sessions.{fitting, unless, resumed, Starts, Resumes};
 
 use crate::fault::SessionFault;
+use crate::lent::Lent;
 use crate::session::Session;
 use machine::machine::{LIMIT, Machine};
 use machine::vm::Vm;
-use words::code::Code;
-use words::instr::Instr;
 use words::store::{Store, StoreFault};
 
-// Whether the code, the stack and the store will do.
-fn fit<S: Store>(code: Code<'_>, stack: &[u16], store: &S) -> Result<(), SessionFault>
-    ensures { result ≡ unless (fitting code.entry.cells code.entry.depth (length code.entry.instructions.now) (length stack.now) (length (S.Store.words store.now))) tt }
-{
-    if code.instructions.is_empty() || code.instructions.len() > 16383 {
-        return Err(SessionFault::BadCode);
+impl<S: Store> Lent<'_, '_, '_, S> {
+    // Whether it will do for a code of so many cells and such a depth.
+    fn fit(&self, cells: u16, depth: u16) -> Result<(), SessionFault>
+        ensures { result ≡ unless (fitting cells depth (length self.now.code.now) (length self.now.stack.now) (length (S.Store.words self.now.store.now))) tt }
+    {
+        if self.code.is_empty() || self.code.len() > 16383 {
+            return Err(SessionFault::BadCode);
+        }
+        if self.stack.len() < depth as usize {
+            return Err(SessionFault::ShortStack);
+        }
+        if self.store.size() < cells {
+            return Err(SessionFault::ShortStore);
+        }
+        Ok(())
     }
-    if stack.len() < code.depth as usize {
-        return Err(SessionFault::ShortStack);
-    }
-    if store.size() < code.cells {
-        return Err(SessionFault::ShortStore);
-    }
-    Ok(())
 }
 
 impl Session {
     // A session at instruction 0 with an empty stack.
     pub(crate) fn start<S: Store>(
-        code: Code<'_>,
-        stack: &[u16],
-        store: &S,
+        cells: u16,
+        depth: u16,
+        lent: &Lent<'_, '_, '_, S>,
     ) -> Result<Session, SessionFault>
-        ensures { Starts result code.entry.cells code.entry.depth (fitting code.entry.cells code.entry.depth (length code.entry.instructions.now) (length stack.now) (length (S.Store.words store.now))) }
+        ensures { Starts result cells depth (fitting cells depth (length lent.now.code.now) (length lent.now.stack.now) (length (S.Store.words lent.now.store.now))) }
     {
-        fit(code, stack, store)?;
+        lent.fit(cells, depth)?;
         Ok(Session {
-            cells: code.cells,
-            depth: code.depth,
+            cells,
+            depth,
             vm: Vm {
                 place: 0,
                 height: 0,
@@ -69,22 +70,13 @@ impl Session {
     // Makes `limit` steps, fewer only if the run ends or 4,000,000,000 in all are reached.
     pub(crate) fn resume<S: Store>(
         &mut self,
-        code: &[Instr],
-        stack: &mut [u16],
-        store: &mut S,
+        lent: &mut Lent<'_, '_, '_, S>,
         limit: u64,
     ) -> Result<Vm, SessionFault>
-        ensures did { Resumes result (state self.old.vm stack.old (S.Store.words store.old)) (state self.new.vm stack.new (S.Store.words store.new)) (resumed self.old.cells self.old.depth code.now limit (state self.old.vm stack.old (S.Store.words store.old))) }
-        ensures cells { self.new.cells ≡ self.old.cells }
-        ensures depth { self.new.depth ≡ self.old.depth }
-        ensures keeps { S.Store.keeps store.old store.new }
+        ensures did { Resumes result (state_of S.Store.words self.old lent.old) (state_of S.Store.words self.new lent.new) (resumed self.old.cells self.old.depth lent.old.code.now limit (state_of S.Store.words self.old lent.old)) }
+        ensures lasts { Lasts S.Store.keeps self.old self.new lent.old lent.new }
     {
-        let begun = Code {
-            cells: self.cells,
-            depth: self.depth,
-            instructions: code,
-        };
-        fit(begun, stack, store)?;
+        lent.fit(self.cells, self.depth)?;
         if limit == 0 {
             return Err(SessionFault::NoSteps);
         }
@@ -96,10 +88,10 @@ impl Session {
         }
         let granted = limit.min(LIMIT - self.vm.steps);
         let mut machine = Machine {
-            code,
+            code: lent.code,
             depth: self.depth,
-            stack,
-            store,
+            stack: &mut *lent.stack,
+            store: &mut *lent.store,
             vm: self.vm,
         };
         machine.run(granted);
