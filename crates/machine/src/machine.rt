@@ -1,5 +1,5 @@
 // A machine that can make steps.
-ghost use Rattle.std.specs.Prelude.{◌≡◌, ◌+◌, ◌<◌, ◌≤◌, length};
+ghost use Rattle.std.specs.Prelude.{◌≤◌, length};
 
 use super::vm::Vm;
 use words::instr::Instr;

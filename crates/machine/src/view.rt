@@ -1,5 +1,5 @@
 // What an instruction looks at, and what it does.
-ghost use Rattle.std.specs.Prelude.{◌≡◌, ◌-◌, ◌<◌, true, slice_index};
+ghost use Rattle.std.specs.Prelude.{◌≡◌, ◌<◌, true};
 ghost use Rattle.machine.specs.declared.vm.Move.TheVariants.{On, Push, Write};
 ghost use Rattle.machine.specs.Table.{fine, cell_of, act};
 

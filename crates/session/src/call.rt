@@ -64,6 +64,7 @@ impl Session {
         if answers.len() < calls.len() {
             return Err(TooFewPlaces);
         }
+        // not `answers.iter_mut().zip(calls)`: after it nothing is known of what was written
         for (i, call) in calls.iter().enumerate() {
             answers[i] = self.call(lent, *call);
         }

@@ -1,5 +1,5 @@
 // The calls of a session.
-ghost use Rattle.std.specs.Prelude.{◌≡◌, ◌≤◌, length};
+ghost use Rattle.std.specs.Prelude.{◌≡◌, length};
 ghost use Rattle.words.specs.Refusals.{told};
 ghost use Rattle.words.specs.Stores.{read_of, refusal_of};
 ghost use Rattle.session.specs.Lent.{state_of, Lasts};
