@@ -56,7 +56,8 @@ impl fmt::Display for ImageFault {
             ImageFault::TooLarge(_) => "a number is over 65535",
             ImageFault::UnknownInstruction(_) => "there is no instruction of this number",
             ImageFault::BytesLeft(_) => "bytes are left after the last instruction",
-            ImageFault::BadHeader(_) => "the cells are over 4096, or the instructions are none or over 16383",
+            ImageFault::BadHeader(_) =>
+                "the cells are over 4096, or the instructions are none or over 16383",
             ImageFault::TableShort(_) => "the table has too few entries for the instructions",
             ImageFault::RoomShort(_) => "the room is too short: the image takes this many bytes",
             ImageFault::BadEntry(_) => "the entry or the header is no code's",
