@@ -1,13 +1,10 @@
 -- What has the form of a token, by its first byte. Assumes nothing.
-use Rattle.std.proofs.Common.{◌≡◌, ℕ, ◌+◌, ◌<◌, ◌≤◌, true, false, cond, eqb, leb, List, [], ◌∷◌, ◌++◌, length, take, sym, refl, ap, ◌∙◌, subst, inl, inr, ⊎_elim, one-add, arith}
+use Rattle.std.proofs.Common.{Bool, ◌≡◌, ℕ, ◌+◌, ◌<◌, ◌≤◌, true, false, cond, eqb, leb, List, [], ◌∷◌, ◌++◌, length, take, sym, refl, ap, ◌∙◌, subst, inl, inr, ⊎_elim, one-add, arith}
 use Rattle.std.proofs.lemmas.Bool.{cases_Bool, or_from, ne_eqb, and_parts, and_left, leb-true, lt-leb, cond_both, eqb-true}
 use Rattle.std.specs.List.{prefix_len}
 use Rattle.text.specs.declared.token.Symbol.{Symbol}
 use Rattle.text.specs.declared.token.Symbol.TheVariants as sym·
-use Rattle.text.specs.declared.scan.Start.{Start}
-use Rattle.text.specs.declared.scan.Start.TheVariants.{Letter, Decimal, Percent, Comment, Other}
-use Rattle.text.specs.declared.scan.Class.{Class}
-use Rattle.text.specs.Lexemes.{blank, capital, digit, passes, opens, symbol_text}
+use Rattle.text.specs.Lexemes.{Start, Letter, Decimal, Percent, Comment, Other, blank, capital, digit, opens, symbol_text}
 use Rattle.text.specs.Forms.{AllOf, WordForm, IntegerForm, LogicalForm, SymbolForm, Form}
 use Rattle.text.proofs.Signs.{symbol_long}
 
@@ -76,12 +73,12 @@ no_form (inr (inr (inl w))) = w
 no_form (inr (inr (inr w))) = let l = symbol_long w.0 in let e : length (symbol_text w.0) ≡ 0 = ap length (sym w.1) in omega arith
 
 -- as many at the front as pass
-pub lead_all : (k : Class) (xs : List ℕ) → AllOf k (take (prefix_len (passes k) xs) xs)
+pub lead_all : (k : ℕ → Bool) (xs : List ℕ) → AllOf k (take (prefix_len k xs) xs)
 lead_all k [] = tt
 lead_all k (b ∷ bs) =
-    cond_both (passes k b) (1 + prefix_len (passes k) bs) 0 (λ (n : ℕ). AllOf k (take n (b ∷ bs))) (λ e. rw (one-add (prefix_len (passes k) bs)) (e, lead_all k bs)) (λ e. tt)
+    cond_both (k b) (1 + prefix_len k bs) 0 (λ (n : ℕ). AllOf k (take n (b ∷ bs))) (λ e. rw (one-add (prefix_len k bs)) (e, lead_all k bs)) (λ e. tt)
 
-pub lead_most : (k : Class) (v later : List ℕ) → AllOf k v → length v ≤ prefix_len (passes k) (v ++ later)
+pub lead_most : (k : ℕ → Bool) (v later : List ℕ) → AllOf k v → length v ≤ prefix_len k (v ++ later)
 lead_most k [] later h = omega arith
 lead_most k (b ∷ bs) later h = rw h.0 (omega (arith, lead_most k bs later h.1))
 

@@ -8,8 +8,7 @@ use Rattle.words.specs.declared.refusal.Refusal.{Refusal}
 use Rattle.text.specs.declared.token.Kind.TheVariants.{Integer, Logical}
 use Rattle.text.specs.declared.token.Symbol.{Symbol}
 use Rattle.text.specs.declared.token.Symbol.TheVariants as sym·
-use Rattle.text.specs.declared.scan.Start.TheVariants.{Other}
-use Rattle.text.specs.Lexemes.{blank, opens, sign_of, symbol_text}
+use Rattle.text.specs.Lexemes.{Other, blank, opens, sign_of, symbol_text}
 use Rattle.text.specs.Cut.{Piece, word, number, symbol}
 use Rattle.text.specs.Forms.{Form, SymbolForm, Spells, place_of}
 use Rattle.text.specs.Theorems.{Part, token, gap, comment, spelling, tokens_in, Right, AllRight, NoToken, BadToken, OpenComment, Refused, Ending, Reading}
