@@ -10,7 +10,8 @@ use Rattle.text.specs.declared.fault.TextFault.{TextFault}
 use Rattle.text.specs.declared.token.Symbol.{Symbol}
 use Rattle.text.specs.declared.token.Kind.{Kind}
 use Rattle.text.specs.declared.token.Kind.TheVariants.{Integer, Logical}
-use Rattle.text.proofs.Signs.{Stands, sign_stands, symbol_long}
+use Rattle.text.proofs.FirstBytes.{symbol_long}
+use Rattle.text.proofs.Signs.{Stands, sign_stands}
 use Rattle.text.specs.Lexemes.{Start, Letter, Decimal, Percent, Comment, Other, capital, digit, opens, symbol_text, start_of, sign_of, word_byte, digit_of, base_of, most_of, value_of, within, gap_of}
 use Rattle.text.specs.Faults.{refusal_of}
 use Rattle.text.specs.Cut.{Cut, Next, Short, fronted, onward, width_of, after, first_of, piece, Piece, word, lexed, word_of, symbol_of, Front, good, nexted, next_of, Steps, number_of, valued, past, lexeme, cut, left, fault}
@@ -93,13 +94,13 @@ starts b bs =
     (λ g. cond_both (opens (b ∷ bs)) Comment Other (Starts b bs) (λ h. h) (λ h. (e, f, eqb-false b 37 g, h)))))
 
 letter_first : (xs : List ℕ) → start_of xs ≡ Letter → 0 < prefix_len word_byte xs
-letter_first [] e = absurd (let z : ◌≡◌ {A = ℕ} 0 1 = cc in omega arith)
+letter_first [] e = cc
 letter_first (b ∷ bs) e = let c : capital b ≡ true = subst (Starts b bs) e (starts b bs) in rw c (omega arith)
 
 lexed_wide : (p : ℕ) (xs : List ℕ) (st : Start) → start_of xs ≡ st → Wide (length xs) (lexed p xs st)
 lexed_wide p xs Letter e = word_wide p (prefix_len word_byte xs) xs (letter_first xs e) (prefix_len-le-length word_byte xs)
 lexed_wide p xs Decimal e = number_wide p 0 (prefix_len (digit_of Integer) xs) Integer xs (omega (arith, prefix_len-le-length (digit_of Integer) xs))
-lexed_wide p [] Percent e = absurd (let z : ◌≡◌ {A = ℕ} 0 1 = cc in omega arith)
+lexed_wide p [] Percent e = cc
 lexed_wide p (b ∷ bs) Percent e = number_wide p 1 (prefix_len (digit_of Logical) bs) Logical (b ∷ bs) (omega (arith, prefix_len-le-length (digit_of Logical) bs))
 lexed_wide p xs Comment e = tt
 lexed_wide p xs Other e = sign_wide p xs (sign_of xs) (sign_stands xs)
@@ -173,18 +174,18 @@ cut_skips end zero bs = refl
 cut_skips end (suc k) [] = refl
 cut_skips end (suc k) (b ∷ bs) = cut_skips end k bs
 
+pub dropped : (b : ℕ) (bs : List ℕ) (n : ℕ) → 0 < n → drop (n - 1) bs ≡ drop n (b ∷ bs)
+dropped b bs zero h = absurd (omega arith)
+dropped b bs (suc k) h = let e : suc k - 1 ≡ k = omega arith in rw e
+
 -- the cut by what stands at the front
 cut_front : (end : ℕ) (xs : List ℕ) (f : Front) → gap_of xs ≡ 0 → (length xs ≡ 0 → ⊥) → lexeme (end - length xs) xs ≡ f → Wide (length xs) f → cut end 0 xs ≡ onward f (cut end 0 (drop (width_of f) xs))
 unfolding cut
 cut_front end [] f g l e w = absurd (l refl)
 cut_front end (b ∷ bs) (Err r) g l e w = rw (g, e)
 cut_front end (b ∷ bs) (Ok f) g l e w =
-    let n : drop (f.1 - 1) bs ≡ drop f.1 (b ∷ bs) = dropped f.1 w.0 in
+    let n = dropped b bs f.1 w.0 in
     rw (g, e) (ap (onward (Ok f)) (cut_skips end (f.1 - 1) bs ∙ ap (cut end 0) n))
-  where
-    dropped : (k : ℕ) → 0 < k → drop (k - 1) bs ≡ drop k (b ∷ bs)
-    dropped zero h = absurd (omega arith)
-    dropped (suc k) h = let e : suc k - 1 ≡ k = omega arith in rw e
 
 -- what `next` says of the tokens that are left
 pub first_is : (end : ℕ) (bs xs : List ℕ) → xs ≡ past 0 bs → (length xs ≡ 0 → ⊥) → next_of end bs ≡ after xs (lexeme (end - length xs) xs)

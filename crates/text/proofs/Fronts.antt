@@ -57,17 +57,17 @@ ends_back b xs k h = let e : suc k + 1 ≡ suc (k + 1) = omega arith in (h.0, rw
 not_both : (b d : ℕ) → ((b ≡ 62) × (d ≡ 62) → ⊥) → (eqb b 62 && eqb d 62) ≡ false
 not_both b d h = false_from_ne_true (eqb b 62 && eqb d 62) (λ t. let p = and_parts (eqb b 62) (eqb d 62) t in h (eqb-true b 62 p.0, eqb-true d 62 p.1))
 
-pub closing_first : (s : List ℕ) (r : Option ℕ) → FirstEnd s r → option_map (λ n. n + 2) r ≡ closing s
+pub closing_is : (s : List ℕ) (r : Option ℕ) → FirstEnd s r → option_map (λ n. n + 2) r ≡ closing s
 unfolding closing
-closing_first [] None h = refl
-closing_first [] (Some i) h = absurd (omega (arith, h.0))
-closing_first (b ∷ []) None h = refl
-closing_first (b ∷ []) (Some i) h = absurd (omega (arith, h.0))
-closing_first (b ∷ d ∷ xs) None h = rw (not_both b d (λ e. h 0 (omega arith) e), ← closing_first (d ∷ xs) None (λ k l e. h (suc k) (omega arith) (ends_on b (d ∷ xs) k e)))
-closing_first (b ∷ d ∷ xs) (Some zero) h = rw (h.1.0, h.1.1)
-closing_first (b ∷ d ∷ xs) (Some (suc i)) h =
+closing_is [] None h = refl
+closing_is [] (Some i) h = absurd (omega (arith, h.0))
+closing_is (b ∷ []) None h = refl
+closing_is (b ∷ []) (Some i) h = absurd (omega (arith, h.0))
+closing_is (b ∷ d ∷ xs) None h = rw (not_both b d (λ e. h 0 (omega arith) e), ← closing_is (d ∷ xs) None (λ k l e. h (suc k) (omega arith) (ends_on b (d ∷ xs) k e)))
+closing_is (b ∷ d ∷ xs) (Some zero) h = rw (h.1.0, h.1.1)
+closing_is (b ∷ d ∷ xs) (Some (suc i)) h =
     let f : suc i + 2 ≡ (i + 2) + 1 = omega arith in
-    rw (not_both b d (λ e. h.2 0 (omega arith) e), ← closing_first (d ∷ xs) (Some i) (omega (arith, h.0), ends_back b (d ∷ xs) i h.1, λ k l e. h.2 (suc k) (omega arith) (ends_on b (d ∷ xs) k e))) (ap (λ (k : ℕ). Some k) f)
+    rw (not_both b d (λ e. h.2 0 (omega arith) e), ← closing_is (d ∷ xs) (Some i) (omega (arith, h.0), ends_back b (d ∷ xs) i h.1, λ k l e. h.2 (suc k) (omega arith) (ends_on b (d ∷ xs) k e))) (ap (λ (k : ℕ). Some k) f)
 
 -- what the blank or the comment at the front takes
 pub gap_blank : (xs : List ℕ) → blanks xs ≡ true → gap_of xs ≡ 1

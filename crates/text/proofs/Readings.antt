@@ -7,7 +7,7 @@ use Rattle.words.specs.declared.refusal.Refusal.{Refusal}
 use Rattle.text.specs.Lexemes.{gap_of}
 use Rattle.text.specs.Cut.{Piece, Front, onward, width_of, Cut, lexeme, cut, left, fault, settled, texted}
 use Rattle.text.specs.Theorems.{Part, token, spelling, tokens_in, Right, AllRight, Refused, Reading, TextStands}
-use Rattle.text.proofs.Cutting.{Wide, lexeme_wide}
+use Rattle.text.proofs.Cutting.{Wide, dropped, lexeme_wide}
 use Rattle.text.proofs.Sound.{Sound, lexeme_sound, Gap, gap_part}
 use Rattle.text.proofs.Unique.{reading_one}
 use Rattle.text.proofs.Wholes.{texted_long}
@@ -55,10 +55,6 @@ by_front p xs (Err r) s w later ih = halt p xs _ refl s
 by_front p xs (Ok f) s w later ih =
     extend p xs (token f.0 (take f.1 xs)) f.1 (later f.1) _
     (take-append-drop f.1 xs) (length-take-le f.1 xs w.1) s (λ ps e. ap (λ (v : List Piece). f.0 ∷ v) e) refl (ih f.1 w.0 w.1)
-
-dropped : (b : ℕ) (bs : List ℕ) (n : ℕ) → 0 < n → drop (n - 1) bs ≡ drop n (b ∷ bs)
-dropped b bs zero h = absurd (omega arith)
-dropped b bs (suc k) h = let e : suc k - 1 ≡ k = omega arith in rw e
 
 read : (end p k : ℕ) (bs : List ℕ) → p + length (drop k bs) ≡ end → Read p (drop k bs) (cut end k bs)
 unfolding cut

@@ -15,7 +15,7 @@ use Rattle.text.specs.Forms.{AllOf, WordForm, IntegerForm, LogicalForm, SymbolFo
 use Rattle.text.specs.Theorems.{Part, token, gap, comment, spelling, tokens_in, Right, Refused, BadToken, OpenComment}
 use Rattle.text.proofs.Cutting.{Starts, starts}
 use Rattle.text.proofs.Signs.{Stands, sign_stands, Reaches, sign_longest}
-use Rattle.text.proofs.FirstBytes.{kind_of, kind_letter, kind_decimal, kind_percent, kind_other, FormAs, HeadOther, symbol_other, by_form, not_opens, lead_all, lead_most}
+use Rattle.text.proofs.FirstBytes.{kind_of, kind_letter, kind_decimal, kind_percent, kind_other, FormAs, Head, symbol_head, by_form, not_opens, lead_all, lead_most}
 
 abbrev pub Sound : ℕ → List ℕ → Front → Type 0
 Sound p xs (Ok f) = Right p (token f.0 (take f.1 xs)) (drop f.1 xs)
@@ -47,7 +47,7 @@ pub spells_kind : (t : Piece) (b : ℕ) (bs : List ℕ) → Spells t (b ∷ bs) 
 spells_kind (word text p) b bs h = kind_letter b h.1.0
 spells_kind (number text Integer v p) b bs h = kind_decimal b h.1.0
 spells_kind (number text Logical v p) b bs h = kind_percent b h.1.0
-spells_kind (symbol s p) b bs h = subst HeadOther (sym h) (symbol_other s)
+spells_kind (symbol s p) b bs h = (subst Head (sym h) (symbol_head s)).0
 
 -- a word
 
@@ -61,9 +61,9 @@ word_form b bs (suc n) c h a = (c, a.1)
 
 no_word : (b : ℕ) (bs : List ℕ) → capital b ≡ true → 15 < length (b ∷ bs) → (t : Piece) → Spells t (b ∷ bs) → ⊥
 no_word b bs c h (word text p) s = let l : length (b ∷ bs) ≤ 15 = s.2 in omega arith
-no_word b bs c h (number text Integer v p) s = let k = kind_letter b c in let m = spells_kind (number text Integer v p) b bs s in let z : ◌≡◌ {A = ℕ} 0 1 = cc in omega arith
-no_word b bs c h (number text Logical v p) s = let k = kind_letter b c in let m = spells_kind (number text Logical v p) b bs s in let z : ◌≡◌ {A = ℕ} 0 1 = cc in omega arith
-no_word b bs c h (symbol t p) s = let k = kind_letter b c in let m = spells_kind (symbol t p) b bs s in let z : ◌≡◌ {A = ℕ} 0 1 = cc in omega arith
+no_word b bs c h (number text Integer v p) s = let k = kind_letter b c in let m = spells_kind (number text Integer v p) b bs s in cc
+no_word b bs c h (number text Logical v p) s = let k = kind_letter b c in let m = spells_kind (number text Logical v p) b bs s in cc
+no_word b bs c h (symbol t p) s = let k = kind_letter b c in let m = spells_kind (symbol t p) b bs s in cc
 
 sound_word : (p b : ℕ) (bs : List ℕ) (n : ℕ) → capital b ≡ true → n ≡ prefix_len word_byte (b ∷ bs) → Sound p (b ∷ bs) (word_of p n (b ∷ bs))
 sound_word p b bs n c ne =
@@ -77,7 +77,7 @@ sound_word p b bs n c ne =
     (λ v later e g. run_most word_byte xs v later n ne e (word_run v g)) in
     let k = length-take-le n xs l in
     cond_both (leb n 15) (good (word (take n xs) p) n) (refuse 3 p) (Sound p xs)
-    (λ t. (refl, (refl, f, omega (arith, leb-true n 15 t)), m, closed b bs n (not_opens b bs Letter (kind_letter b c) (λ e. let z : ◌≡◌ {A = ℕ} 0 1 = cc in omega arith))))
+    (λ t. (refl, (refl, f, omega (arith, leb-true n 15 t)), m, closed b bs n (not_opens b bs Letter (kind_letter b c) (λ e. cc))))
     (λ t. (
       refl,
       inr (inl (
@@ -108,10 +108,10 @@ integer_form b bs zero c h a = absurd (omega arith)
 integer_form b bs (suc n) c h a = (c, a.1)
 
 no_integer : (b : ℕ) (bs : List ℕ) → kind_of b ≡ Decimal → 32767 < value_of 10 0 (b ∷ bs) → (t : Piece) → Spells t (b ∷ bs) → ⊥
-no_integer b bs k h (word text p) s = let m = spells_kind (word text p) b bs s in let z : ◌≡◌ {A = ℕ} 0 1 = cc in omega arith
+no_integer b bs k h (word text p) s = let m = spells_kind (word text p) b bs s in cc
 no_integer b bs k h (number text Integer v p) s = let e : v ≡ value_of 10 0 (b ∷ bs) = s.2 in let l : v ≤ 32767 = s.3 in omega arith
-no_integer b bs k h (number text Logical v p) s = let m = spells_kind (number text Logical v p) b bs s in let z : ◌≡◌ {A = ℕ} 0 1 = cc in omega arith
-no_integer b bs k h (symbol t p) s = let m = spells_kind (symbol t p) b bs s in let z : ◌≡◌ {A = ℕ} 0 1 = cc in omega arith
+no_integer b bs k h (number text Logical v p) s = let m = spells_kind (number text Logical v p) b bs s in cc
+no_integer b bs k h (symbol t p) s = let m = spells_kind (symbol t p) b bs s in cc
 
 sound_integer : (p b : ℕ) (bs : List ℕ) (n : ℕ) → digit b ≡ true → n ≡ prefix_len digit (b ∷ bs) → Sound p (b ∷ bs) (number_of p 0 n Integer (b ∷ bs))
 sound_integer p b bs n c ne =
@@ -141,18 +141,18 @@ sound_integer p b bs n c ne =
         },
       )),
     ))
-    (λ u. (refl, (refl, f, refl, ltb-false 32767 v u), m, closed b bs n (not_opens b bs Decimal kd (λ e. let z : ◌≡◌ {A = ℕ} 0 1 = cc in omega arith))))))
+    (λ u. (refl, (refl, f, refl, ltb-false 32767 v u), m, closed b bs n (not_opens b bs Decimal kd (λ e. cc))))))
   where
     over : (n : ℕ) → 0 < n → 32767 < value_of 10 0 (take n (b ∷ bs)) → (t : Piece) → Spells t (take n (b ∷ bs)) → ⊥
     over zero o h = absurd (omega arith)
     over (suc n) o h = no_integer b (take n bs) (kind_decimal b c) h
 
 no_logical : (b : ℕ) (bs : List ℕ) → kind_of b ≡ Percent → (length bs ≡ 0) ⊎ (65535 < value_of 8 0 bs) → (t : Piece) → Spells t (b ∷ bs) → ⊥
-no_logical b bs k h (word text p) s = let m = spells_kind (word text p) b bs s in let z : ◌≡◌ {A = ℕ} 0 1 = cc in omega arith
-no_logical b bs k h (number text Integer v p) s = let m = spells_kind (number text Integer v p) b bs s in let z : ◌≡◌ {A = ℕ} 0 1 = cc in omega arith
+no_logical b bs k h (word text p) s = let m = spells_kind (word text p) b bs s in cc
+no_logical b bs k h (number text Integer v p) s = let m = spells_kind (number text Integer v p) b bs s in cc
 no_logical b bs k (inl h) (number text Logical v p) s = let l : 1 < length (b ∷ bs) = s.4 in omega arith
 no_logical b bs k (inr h) (number text Logical v p) s = let e : v ≡ value_of 8 0 bs = s.2 in let l : v ≤ 65535 = s.3 in omega arith
-no_logical b bs k h (symbol t p) s = let m = spells_kind (symbol t p) b bs s in let z : ◌≡◌ {A = ℕ} 0 1 = cc in omega arith
+no_logical b bs k h (symbol t p) s = let m = spells_kind (symbol t p) b bs s in cc
 
 logical_most : (b : ℕ) (bs : List ℕ) (n : ℕ) → n ≡ prefix_len octal bs → (v later : List ℕ) → b ∷ bs ≡ v ++ later → LogicalForm v → length v ≤ suc n
 logical_most b bs n ne [] later e h = omega arith
@@ -187,7 +187,7 @@ sound_logical p b bs n c ne =
       refl,
       (refl, f, refl, ltb-false 65535 v u, omega (arith, eqb-false n 0 t)),
       m,
-      closed b bs (suc n) (not_opens b bs Percent kd (λ e. let z : ◌≡◌ {A = ℕ} 0 1 = cc in omega arith)),
+      closed b bs (suc n) (not_opens b bs Percent kd (λ e. cc)),
     ))))
 
 -- a symbol
@@ -290,8 +290,8 @@ pub blank_gap : (b : ℕ) (bs : List ℕ) → blank b ≡ true → Gap (b ∷ bs
 blank_gap b bs h = record { part = gap b; front = refl; size = refl; right = λ p. h; silent = λ ps. refl }
 
 pub comment_gap : (xs : List ℕ) (m : ℕ) → opens xs ≡ true → closing (drop 2 xs) ≡ Some m → Gap xs (m + 2)
-comment_gap [] m o e = absurd (let z : ◌≡◌ {A = ℕ} 0 1 = cc in omega arith)
-comment_gap (b ∷ []) m o e = absurd (let z : ◌≡◌ {A = ℕ} 0 1 = cc in omega arith)
+comment_gap [] m o e = cc
+comment_gap (b ∷ []) m o e = cc
 comment_gap (b ∷ d ∷ xs) m o e =
     let c : ClosedAt xs m = subst (Closed xs) e (closing_stands xs) in
     let q = and_parts (eqb b 60) (eqb d 60) o in
