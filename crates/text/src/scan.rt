@@ -96,6 +96,7 @@ fn gap(s: &[u8]) -> Option<usize>
 }
 
 // The text without the blanks and comments at its front.
+#[tactic(auto, using(crate::proofs::Cutting::past_here, crate::proofs::Cutting::past_more, std::proofs::lemmas::List::take_rest))]
 fn trimmed(text: &[u8]) -> &[u8]
     ensures { result.now ≡ past 0 text.now }
 {
@@ -115,6 +116,7 @@ struct Rest<'a> {
 
 impl<'a> Rest<'a> {
     // The word at the front: a capital letter stands there.
+    #[tactic(auto, using(std::proofs::lemmas::Bool::Decides::nat_tests))]
     fn word(&self) -> Result<(Token<'a>, usize), TextFault>
         ensures { fronted result ≡ word_of self.now.place (prefix_len word_byte self.now.bytes.now) self.now.bytes.now }
     {
