@@ -33,6 +33,7 @@ fn digits_len(s: &[u8], kind: Kind) -> usize
 }
 
 // The value of the digits, if the type has it.
+#[tactic(auto, using(crate::proofs::Fronts::value_more, crate::proofs::Fronts::value_over, crate::proofs::Fronts::value_whole, crate::proofs::Fronts::within_some))]
 fn value(digits: &[u8], kind: Kind) -> Option<u16>
     ensures { result ≡ within_of (most_of kind) (value_of (base_of kind) 0 digits.now) }
 {
@@ -128,6 +129,7 @@ impl<'a> Rest<'a> {
     }
 
     // The number at the front, whose digits come after `lead` bytes.
+    #[tactic(auto, using(crate::proofs::Cutting::number_valued))]
     fn number(&self, kind: Kind, lead: usize) -> Result<(Token<'a>, usize), TextFault>
         requires { lead ≤ length self.now.bytes.now }
         ensures { fronted result ≡ number_of self.now.place lead (prefix_len (digit_of kind) (drop lead self.now.bytes.now)) kind self.now.bytes.now }
@@ -152,6 +154,7 @@ impl<'a> Rest<'a> {
     }
 
     // The token at the front, and how many bytes it takes.
+    #[tactic(auto, unfolding(crate::specs::Cut::lexeme))]
     fn token(&self) -> Result<(Token<'a>, usize), TextFault>
         ensures value { fronted result ≡ lexeme_of self.now.place self.now.bytes.now }
         ensures bound { IfOk result (λ p. p.1 ≤ length self.now.bytes.now) }
