@@ -2,7 +2,7 @@
 use text::name::Name;
 use text::token::Kind;
 
-#[derive(Clone, Copy)]
+#[derive(Clone, Copy, PartialEq, Eq, Debug)]
 pub enum Operator {
     Times,
     Divide,
@@ -20,7 +20,7 @@ pub enum Operator {
     Lor,
 }
 
-#[derive(Clone, Copy)]
+#[derive(Clone, Copy, PartialEq, Eq, Debug)]
 pub enum ShiftKind {
     Lsl,
     Lsr,
@@ -29,7 +29,8 @@ pub enum ShiftKind {
     Csr,
 }
 
-// One entry of the list. A `usize` is a place in the source, which a later refusal may name.
+// One entry of the list. A `usize` is a place in the source, which a later refusal may name. No `PartialEq`: a name has
+// none.
 #[derive(Clone, Copy)]
 pub enum Node {
     // name, type, place

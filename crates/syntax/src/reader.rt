@@ -6,7 +6,6 @@ ghost use Rattle.syntax.specs.Machine.{sym, word, bits, part};
 ghost use Rattle.syntax.specs.Machine.{shift as shifted, fields as fielded};
 ghost use Rattle.syntax.specs.Readers.{Ready, Done, Advanced, DecimalTaken, NameTaken, RangeDone, AgainDone, WholeDone};
 
-use crate::class::{decimal, is_keyword, is_symbol, shift_of, spelled};
 use crate::fault::GrammarFault;
 use crate::lexeme::Lexeme;
 use crate::node::Node;
@@ -51,8 +50,8 @@ impl Reader<'_, '_> {
     fn symbol(&mut self, want: Symbol) -> Result<(), GrammarFault>
         ensures { Done 0 2 (sym want ∷ []) self.old self.new result }
     {
-        if !is_symbol(self.ahead.sort, want) {
-            return Err(GrammarFault::Unexpected(self.ahead.place));
+        if !self.ahead.is_symbol(want) {
+            return Err(self.ahead.unexpected());
         }
         self.advance();
         Ok(())
@@ -61,8 +60,8 @@ impl Reader<'_, '_> {
     fn keyword(&mut self, want: Keyword) -> Result<(), GrammarFault>
         ensures { Done 0 2 (word want ∷ []) self.old self.new result }
     {
-        if !is_keyword(self.ahead.sort, want) {
-            return Err(GrammarFault::Unexpected(self.ahead.place));
+        if !self.ahead.is_keyword(want) {
+            return Err(self.ahead.unexpected());
         }
         self.advance();
         Ok(())
@@ -73,7 +72,7 @@ impl Reader<'_, '_> {
         ensures { DecimalTaken self.old self.new result }
     {
         let place = self.ahead.place;
-        let Some(v) = decimal(self.ahead.sort) else {
+        let Some(v) = self.ahead.decimal() else {
             return Err(GrammarFault::Unexpected(place));
         };
         self.advance();
@@ -85,7 +84,7 @@ impl Reader<'_, '_> {
         ensures { NameTaken self.old self.new result }
     {
         let place = self.ahead.place;
-        let Some(n) = spelled(self.ahead.sort) else {
+        let Some(n) = self.ahead.name() else {
             return Err(GrammarFault::Unexpected(place));
         };
         self.advance();
@@ -119,8 +118,8 @@ impl Reader<'_, '_> {
         requires { Ready 0 self.old }
         ensures { Done 0 2 (shifted ∷ []) self.old self.new result }
     {
-        let Some(kind) = shift_of(self.ahead.sort) else {
-            return Err(GrammarFault::Unexpected(self.ahead.place));
+        let Some(kind) = self.ahead.shift() else {
+            return Err(self.ahead.unexpected());
         };
         self.advance();
         self.symbol(Symbol::Open)?;
@@ -135,12 +134,12 @@ impl Reader<'_, '_> {
         requires { Ready 0 self.old }
         ensures { AgainDone fielded self.old self.new result }
     {
-        if is_symbol(self.ahead.sort, Symbol::Dot) {
+        if self.ahead.is_symbol(Symbol::Dot) {
             self.advance();
             self.field()?;
             return Ok(true);
         }
-        if is_symbol(self.ahead.sort, Symbol::Ampersand) {
+        if self.ahead.is_symbol(Symbol::Ampersand) {
             self.advance();
             self.shift()?;
             return Ok(true);

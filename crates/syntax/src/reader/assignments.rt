@@ -6,7 +6,6 @@ ghost use Rattle.syntax.specs.Entries.{entry_of};
 ghost use Rattle.syntax.specs.Machine.{sym, bits, into, target as a_target, target_at as target_in, becomes as assigned, stored as stored_as};
 ghost use Rattle.syntax.specs.Readers.{Ready, Done};
 
-use crate::class::is_symbol;
 use crate::fault::GrammarFault;
 use crate::lexeme::Strength;
 use crate::node::Node;
@@ -32,11 +31,11 @@ impl Reader<'_, '_> {
         ensures { Done 2 0 (a_target (name_of n) place levels ∷ []) self.old self.new result }
     {
         let here = self.ahead.place;
-        if is_symbol(self.ahead.sort, Symbol::Open) {
+        if self.ahead.is_symbol(Symbol::Open) {
             self.paren(levels)?;
             return self.target_at(n, place, here, levels);
         }
-        if is_symbol(self.ahead.sort, Symbol::Dot) {
+        if self.ahead.is_symbol(Symbol::Dot) {
             self.advance();
             put(self.out, Node::Fetch(n, place));
             return self.deposit(false, n, place, levels);
@@ -59,7 +58,7 @@ impl Reader<'_, '_> {
         ensures { Done 2 0 (target_in (name_of n) place paren levels ∷ []) self.old self.new result }
     {
         let here = self.ahead.place;
-        if is_symbol(self.ahead.sort, Symbol::Dot) {
+        if self.ahead.is_symbol(Symbol::Dot) {
             self.advance();
             put(self.out, Node::FetchAt(n, place, paren));
             return self.deposit(true, n, place, levels);

@@ -4,7 +4,6 @@ ghost use Rattle.syntax.specs.Entries.{Or};
 ghost use Rattle.syntax.specs.Machine.{put as written, test as a_test, clauses as some_clauses};
 ghost use Rattle.syntax.specs.Readers.{Ready, Done, AgainDone};
 
-use crate::class::is_keyword;
 use crate::fault::GrammarFault;
 use crate::lexeme::Strength;
 use crate::node::Node;
@@ -37,12 +36,12 @@ impl Reader<'_, '_> {
         requires { Ready 0 self.old }
         ensures { AgainDone (some_clauses levels) self.old self.new result }
     {
-        if is_keyword(self.ahead.sort, Keyword::And) {
+        if self.ahead.is_keyword(Keyword::And) {
             self.advance();
             self.test(levels)?;
             return Ok(true);
         }
-        if is_keyword(self.ahead.sort, Keyword::Or) {
+        if self.ahead.is_keyword(Keyword::Or) {
             self.advance();
             self.alternative(levels)?;
             return Ok(true);

@@ -4,7 +4,6 @@ ghost use Rattle.text.specs.Names.{name_of};
 ghost use Rattle.syntax.specs.Machine.{declarations as some_declarations, typed as a_typed, simple as a_simple, item as an_item, comma, low as a_low};
 ghost use Rattle.syntax.specs.Readers.{Ready, Done, AgainDone, ProgramDone};
 
-use crate::class::{is_keyword, is_stop, is_symbol, kind_at};
 use crate::fault::GrammarFault;
 use crate::node::Node;
 use crate::reader::{Reader, put};
@@ -26,12 +25,12 @@ impl Reader<'_, '_> {
         requires { Ready 0 self.old }
         ensures { AgainDone some_declarations self.old self.new result }
     {
-        if let Some(kind) = kind_at(self.ahead.sort) {
+        if let Some(kind) = self.ahead.kind() {
             self.advance();
             self.typed(kind)?;
             return Ok(true);
         }
-        if is_keyword(self.ahead.sort, Keyword::Array) {
+        if self.ahead.is_keyword(Keyword::Array) {
             self.advance();
             self.items(Kind::Logical)?;
             return Ok(true);
@@ -44,7 +43,7 @@ impl Reader<'_, '_> {
         requires { Ready 0 self.old }
         ensures { Done 0 0 (a_typed kind ∷ []) self.old self.new result }
     {
-        if is_keyword(self.ahead.sort, Keyword::Array) {
+        if self.ahead.is_keyword(Keyword::Array) {
             self.advance();
             return self.items(kind);
         }
@@ -57,7 +56,7 @@ impl Reader<'_, '_> {
         ensures { Done 0 0 (a_simple kind ∷ comma false kind ∷ []) self.old self.new result }
     {
         self.simple(kind)?;
-        while is_symbol(self.ahead.sort, Symbol::Comma) {
+        while self.ahead.is_symbol(Symbol::Comma) {
             self.advance();
             self.simple(kind)?;
         }
@@ -70,7 +69,7 @@ impl Reader<'_, '_> {
         ensures { Done 0 0 (an_item kind ∷ comma true kind ∷ []) self.old self.new result }
     {
         self.item(kind)?;
-        while is_symbol(self.ahead.sort, Symbol::Comma) {
+        while self.ahead.is_symbol(Symbol::Comma) {
             self.advance();
             self.item(kind)?;
         }
@@ -118,8 +117,8 @@ impl Reader<'_, '_> {
         self.declarations()?;
         self.block(31)?;
         self.symbol(Symbol::Dot)?;
-        if !is_stop(self.ahead.sort) {
-            return Err(GrammarFault::Unexpected(self.ahead.place));
+        if !self.ahead.is_stop() {
+            return Err(self.ahead.unexpected());
         }
         Ok(())
     }

@@ -4,7 +4,6 @@ ghost use Rattle.text.specs.Names.{name_of};
 ghost use Rattle.syntax.specs.Machine.{wants, right, more, fields, relation as a_relation, lead as a_lead, compare as a_compare, primary as a_primary, named as a_named, paren as a_paren};
 ghost use Rattle.syntax.specs.Readers.{Ready, Done, FirstDone, AgainDone};
 
-use crate::class::{is_keyword, is_symbol, kind_at, literal, operator_at, spelled};
 use crate::fault::GrammarFault;
 use crate::lexeme::Strength;
 use crate::node::Node;
@@ -30,7 +29,7 @@ impl Reader<'_, '_> {
         requires { Ready 0 self.old }
         ensures { AgainDone (more s levels) self.old self.new result }
     {
-        let Some(o) = operator_at(s, self.ahead.sort) else {
+        let Some(o) = self.ahead.operator(s) else {
             return Ok(false);
         };
         let place = self.ahead.place;
@@ -78,7 +77,7 @@ impl Reader<'_, '_> {
         requires { Ready 0 self.old }
         ensures { Done 0 1 (a_relation levels ∷ []) self.old self.new result }
     {
-        if is_keyword(self.ahead.sort, Keyword::Lnot) {
+        if self.ahead.is_keyword(Keyword::Lnot) {
             let place = self.ahead.place;
             if levels == 0 {
                 return Err(GrammarFault::TooDeep(place));
@@ -98,7 +97,7 @@ impl Reader<'_, '_> {
         requires { Ready 0 self.old }
         ensures { Done 0 0 (a_compare levels ∷ []) self.old self.new result }
     {
-        if let Some(o) = operator_at(Strength::Relation, self.ahead.sort) {
+        if let Some(o) = self.ahead.operator(Strength::Relation) {
             let place = self.ahead.place;
             self.advance();
             self.chain(Strength::Sum, levels)?;
@@ -113,7 +112,7 @@ impl Reader<'_, '_> {
         requires { Ready 0 self.old }
         ensures { Done 0 1 (a_lead levels ∷ []) self.old self.new result }
     {
-        if is_symbol(self.ahead.sort, Symbol::Minus) {
+        if self.ahead.is_symbol(Symbol::Minus) {
             let place = self.ahead.place;
             self.advance();
             self.chain(Strength::Term, levels)?;
@@ -138,18 +137,18 @@ impl Reader<'_, '_> {
         requires { Ready 0 self.old }
         ensures { Done 0 1 (a_primary levels ∷ []) self.old self.new result }
     {
-        if let Some((v, kind)) = literal(self.ahead.sort) {
+        if let Some((v, kind)) = self.ahead.literal() {
             self.advance();
             put(self.out, Node::Number(v, kind));
             return Ok(());
         }
-        if let Some(kind) = kind_at(self.ahead.sort) {
+        if let Some(kind) = self.ahead.kind() {
             self.advance();
             self.paren(levels)?;
             put(self.out, Node::Convert(kind));
             return Ok(());
         }
-        if let Some(n) = spelled(self.ahead.sort) {
+        if let Some(n) = self.ahead.name() {
             let place = self.ahead.place;
             self.advance();
             return self.named(n, place, levels);
@@ -163,7 +162,7 @@ impl Reader<'_, '_> {
         requires { Ready 2 self.old }
         ensures { Done 2 1 (a_named (name_of n) place levels ∷ []) self.old self.new result }
     {
-        if is_symbol(self.ahead.sort, Symbol::Open) {
+        if self.ahead.is_symbol(Symbol::Open) {
             let paren = self.ahead.place;
             self.paren(levels)?;
             put(self.out, Node::Index(n, place, paren));
@@ -179,8 +178,8 @@ impl Reader<'_, '_> {
         requires { Ready 0 self.old }
         ensures { Done 0 2 (a_paren levels ∷ []) self.old self.new result }
     {
-        if !is_symbol(self.ahead.sort, Symbol::Open) {
-            return Err(GrammarFault::Unexpected(self.ahead.place));
+        if !self.ahead.is_symbol(Symbol::Open) {
+            return Err(self.ahead.unexpected());
         }
         if levels == 0 {
             return Err(GrammarFault::TooDeep(self.ahead.place));

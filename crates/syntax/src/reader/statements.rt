@@ -5,7 +5,6 @@ ghost use Rattle.syntax.specs.declared.lexeme.Opening.TheVariants.{Block, Condit
 ghost use Rattle.syntax.specs.Machine.{stmt, block as a_block, otherwise as an_else, arms as some_arms, variable, stepped as a_step, inner as within, turns as the_turns};
 ghost use Rattle.syntax.specs.Readers.{Ready, Done, StatementDone};
 
-use crate::class::{is_keyword, is_symbol, opening_of, spelled};
 use crate::fault::GrammarFault;
 use crate::lexeme::{Opening, Strength};
 use crate::node::Node;
@@ -30,11 +29,11 @@ impl Reader<'_, '_> {
         ensures { Done 0 0 (stmt levels ∷ []) self.old self.new result }
     {
         let place = self.ahead.place;
-        if let Some(n) = spelled(self.ahead.sort) {
+        if let Some(n) = self.ahead.name() {
             self.advance();
             return self.target(n, place, levels);
         }
-        let Some(opening) = opening_of(self.ahead.sort) else {
+        let Some(opening) = self.ahead.opening() else {
             return Ok(());
         };
         if levels == 0 {
@@ -67,7 +66,7 @@ impl Reader<'_, '_> {
         ensures { Done 0 0 (stmt levels ∷ a_block levels ∷ []) self.old self.new result }
     {
         self.statement(levels)?;
-        while is_symbol(self.ahead.sort, Symbol::Semicolon) {
+        while self.ahead.is_symbol(Symbol::Semicolon) {
             self.advance();
             self.statement(levels)?;
         }
@@ -94,7 +93,7 @@ impl Reader<'_, '_> {
         requires { Ready 1 self.old }
         ensures { Done 1 0 (an_else levels ∷ []) self.old self.new result }
     {
-        if is_keyword(self.ahead.sort, Keyword::Else) {
+        if self.ahead.is_keyword(Keyword::Else) {
             self.advance();
             put(self.out, Node::Else);
             self.statement(levels)?;
@@ -126,7 +125,7 @@ impl Reader<'_, '_> {
         ensures { Done 0 0 (stmt levels ∷ some_arms levels ∷ []) self.old self.new result }
     {
         self.statement(levels)?;
-        while is_symbol(self.ahead.sort, Symbol::Semicolon) {
+        while self.ahead.is_symbol(Symbol::Semicolon) {
             self.advance();
             put(self.out, Node::Out);
             put(self.out, Node::Arm);
@@ -187,7 +186,7 @@ impl Reader<'_, '_> {
         requires { Ready 0 self.old }
         ensures { Done 0 0 (a_step (name_of n) at place levels ∷ []) self.old self.new result }
     {
-        if is_keyword(self.ahead.sort, Keyword::Step) {
+        if self.ahead.is_keyword(Keyword::Step) {
             self.advance();
             self.chain(Strength::Lor, levels)?;
             put(self.out, Node::Step(place));
