@@ -10,7 +10,7 @@ Sofar gs r r' = Kept r r' × Fits 0 0 r r' × ((k : List Goal) → runs r (gs ++
 -- one turn more of a loop that waits for the same goal, and its end
 pub again : (g : Goal) (r₀ r r' : Reader) (b : Bool) → b ≡ true → Sofar (g ∷ []) r₀ r → AgainDone g r r' (Ok b) → Sofar (g ∷ []) r₀ r'
 again g r₀ r r' true e s d = (
-  record { end = d.0.end ∙ s.0.end; loan = d.0.loan ∙ s.0.loan; cap = d.0.cap ∙ s.0.cap },
+  record { end = d.0.end ∙ s.0.end; loan = d.0.loan ∙ s.0.loan },
   record { room = omega arith; less = omega arith },
   λ k. s.2 k ∙ d.3 k,
 )
@@ -18,7 +18,7 @@ again g r₀ r r' false e s d = absurd (let z : ◌≡◌ {A = ℕ} 0 1 = cc in 
 
 pub over : (g : Goal) (r₀ r r' : Reader) (b : Bool) → b ≡ false → Sofar (g ∷ []) r₀ r → AgainDone g r r' (Ok b) → Done 0 0 (g ∷ []) r₀ r' (Ok tt)
 over g r₀ r r' false e s d = (
-  record { end = d.0.end ∙ s.0.end; loan = d.0.loan ∙ s.0.loan; cap = d.0.cap ∙ s.0.cap },
+  record { end = d.0.end ∙ s.0.end; loan = d.0.loan ∙ s.0.loan },
   record { room = omega arith; less = omega arith },
   record { reads = λ k. s.2 k ∙ d.2 k },
 )

@@ -1,5 +1,5 @@
 -- What the readers ask and leave.
-use Rattle.std.specs.Prelude.{◌≡◌, ℕ, ◌+◌, ◌*◌, ◌<◌, ◌≤◌, Bool, true, false, List, ◌∷◌, ◌++◌, length, Some, None, Ok, Err, vec_len, vec_capacity, Option, Result}
+use Rattle.std.specs.Prelude.{◌≡◌, ℕ, ◌+◌, ◌*◌, ◌<◌, ◌≤◌, Bool, true, false, List, ◌∷◌, ◌++◌, length, Some, None, Ok, Err, Option, Result}
 use Rattle.syntax.specs.declared.fault.GrammarFault.{GrammarFault}
 use Rattle.syntax.specs.declared.fault.GrammarFault.TheVariants.{Unexpected}
 use Rattle.syntax.specs.declared.lexeme.Strength.{Strength}
@@ -8,7 +8,7 @@ use Rattle.text.specs.declared.name.Name.{Name}
 use Rattle.text.specs.declared.token.Symbol.TheVariants as sign
 use Rattle.text.specs.Names.{name_of}
 use Rattle.syntax.specs.Faults.{refusal_of}
-use Rattle.syntax.specs.Entries.{Entry, written}
+use Rattle.syntax.specs.Entries.{Entry, entries}
 use Rattle.syntax.specs.Entries as entry
 use Rattle.text.specs.declared.token.Keyword.TheVariants as kw
 use Rattle.syntax.specs.Marks.{mark_of, tok_of, live, decimal_of, spelled_of}
@@ -20,24 +20,23 @@ weight r = length r.rest.now + live (mark_of r.ahead.sort)
 
 -- the machine with these goals, from the token ahead, and from the one after it
 abbrev pub onward : Reader → List Goal → Parsed
-onward r gs = behind r.end r.rest.now gs (written r.out.now)
+onward r gs = behind r.end r.rest.now gs (entries r.out.now)
 
 abbrev pub runs : Reader → List Goal → Parsed
-runs r gs = feed (tok_of r.ahead) (behind r.end r.rest.now) gs (written r.out.now)
+runs r gs = feed (tok_of r.ahead) (behind r.end r.rest.now) gs (entries r.out.now)
 
--- a token pays for two entries; m more are paid for
+-- what a reader's type says, and m entries more are paid for
 abbrev pub Ready : ℕ → Reader → Type 0
-Ready m r = vec_len r.out.now + 2 * weight r + m ≤ vec_capacity r.out.now
+Ready m r = length r.out.now + 2 * weight r + m ≤ 65536
 
 -- what stays whatever comes
 pub record Kept (r r' : Reader) : Type 0 where
   pub end : r'.end ≡ r.end
   pub loan : r'.out.ghost_name ≡ r.out.ghost_name
-  pub cap : vec_capacity r'.out.now ≡ vec_capacity r.out.now
 
 -- of what was paid for, m before and two for each token read, c entries are left
 pub record Fits (m c : ℕ) (r r' : Reader) : Type 0 where
-  pub room : vec_len r'.out.now + 2 * weight r' + c ≤ vec_len r.out.now + 2 * weight r + m
+  pub room : length r'.out.now + 2 * weight r' + c ≤ length r.out.now + 2 * weight r + m
   pub less : weight r' ≤ weight r
 
 -- the goals were read, whatever comes below them
@@ -54,7 +53,7 @@ Done m c gs r r' (Err e) = Kept r r' × Refused gs r e
 -- the next token is ahead
 pub record Advanced (r r' : Reader) : Type 0 where
   pub kept : Kept r r'
-  pub len : vec_len r'.out.now ≡ vec_len r.out.now
+  pub len : length r'.out.now ≡ length r.out.now
   pub less : weight r' ≤ length r.rest.now
   pub reads : (k : List Goal) → onward r k ≡ runs r' k
 
@@ -120,7 +119,7 @@ StatementDone l r r' (Err e) = Kept r r' × Unstated l r e
 
 -- the whole program
 abbrev pub ProgramDone : Reader → Reader → Result (Unit {0}) GrammarFault → Type 0
-ProgramDone r r' (Ok u) = Kept r r' × (runs r program ≡ Ok (written r'.out.now))
+ProgramDone r r' (Ok u) = Kept r r' × (runs r program ≡ Ok (entries r'.out.now))
 ProgramDone r r' (Err e) = Kept r r' × (runs r program ≡ Err (refusal_of e))
 
 -- a text read as a program, after the entries o

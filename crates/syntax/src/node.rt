@@ -1,6 +1,13 @@
 // The syntax list: a source in written order, operands before their operator, with plain markers for control.
 use text::name::Name;
 use text::token::Kind;
+use words::reserved::Reserved;
+
+// Room for two entries for each byte of the longest source.
+pub(crate) const ROOM: usize = 65536;
+
+// The list as it is written.
+pub(crate) type Nodes = Reserved<Node, ROOM>;
 
 #[derive(Clone, Copy, PartialEq, Eq, Debug)]
 pub enum Operator {

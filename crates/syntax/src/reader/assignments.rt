@@ -9,7 +9,8 @@ ghost use Rattle.syntax.specs.Readers.{Ready, Done};
 use crate::fault::GrammarFault;
 use crate::lexeme::Strength;
 use crate::node::Node;
-use crate::reader::{Reader, put};
+use crate::reader::Reader;
+use crate::reader::tokens::put;
 use text::name::Name;
 use text::token::Symbol;
 

@@ -7,13 +7,13 @@ ghost use Rattle.syntax.specs.Readers.{Ready, Done, AgainDone};
 use crate::fault::GrammarFault;
 use crate::lexeme::Strength;
 use crate::node::Node;
-use crate::reader::{Reader, put};
+use crate::reader::Reader;
+use crate::reader::tokens::put;
 use text::token::Keyword;
 
 impl Reader<'_, '_> {
     // clause {OR clause}, each of them expr {AND expr}
     pub(crate) fn condition(&mut self, levels: u8) -> Result<(), GrammarFault>
-        requires { Ready 0 self.old }
         ensures { Done 0 0 (a_test levels ∷ some_clauses levels ∷ []) self.old self.new result }
     {
         self.test(levels)?;
@@ -22,7 +22,6 @@ impl Reader<'_, '_> {
     }
 
     fn test(&mut self, levels: u8) -> Result<(), GrammarFault>
-        requires { Ready 0 self.old }
         ensures { Done 0 0 (a_test levels ∷ []) self.old self.new result }
     {
         let place = self.ahead.place;
@@ -33,7 +32,6 @@ impl Reader<'_, '_> {
 
     // AND or OR, and one expression more.
     fn further(&mut self, levels: u8) -> Result<bool, GrammarFault>
-        requires { Ready 0 self.old }
         ensures { AgainDone (some_clauses levels) self.old self.new result }
     {
         if self.ahead.is_keyword(Keyword::And) {

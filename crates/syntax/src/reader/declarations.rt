@@ -1,19 +1,21 @@
 // The readers of declarations, and of a whole program.
-ghost use Rattle.std.specs.Prelude.{true, false, [], ◌∷◌};
+ghost use Rattle.std.specs.Prelude.{◌+◌, ◌*◌, ◌≤◌, true, false, [], ◌∷◌, length};
 ghost use Rattle.text.specs.Names.{name_of};
+ghost use Rattle.syntax.specs.Entries.{entries};
 ghost use Rattle.syntax.specs.Machine.{declarations as some_declarations, typed as a_typed, simple as a_simple, item as an_item, comma, low as a_low};
-ghost use Rattle.syntax.specs.Readers.{Ready, Done, AgainDone, ProgramDone};
+ghost use Rattle.syntax.specs.Readers.{Done, AgainDone, ProgramDone, WholeDone};
 
 use crate::fault::GrammarFault;
-use crate::node::Node;
-use crate::reader::{Reader, put};
+use crate::node::{Node, Nodes};
+use crate::reader::Reader;
+use crate::reader::tokens::put;
+use crate::scan::scan;
 use text::name::Name;
 use text::token::{Keyword, Kind, Symbol};
 
 impl Reader<'_, '_> {
     // {declaration ;}
     pub(crate) fn declarations(&mut self) -> Result<(), GrammarFault>
-        requires { Ready 0 self.old }
         ensures { Done 0 0 (some_declarations ∷ []) self.old self.new result }
     {
         while self.declaration()? {}
@@ -22,7 +24,6 @@ impl Reader<'_, '_> {
 
     // One declaration and its `;`, if there is one.
     fn declaration(&mut self) -> Result<bool, GrammarFault>
-        requires { Ready 0 self.old }
         ensures { AgainDone some_declarations self.old self.new result }
     {
         if let Some(kind) = self.ahead.kind() {
@@ -40,7 +41,6 @@ impl Reader<'_, '_> {
 
     // What follows a type: ARRAY and its items, or names.
     fn typed(&mut self, kind: Kind) -> Result<(), GrammarFault>
-        requires { Ready 0 self.old }
         ensures { Done 0 0 (a_typed kind ∷ []) self.old self.new result }
     {
         if self.ahead.is_keyword(Keyword::Array) {
@@ -52,7 +52,6 @@ impl Reader<'_, '_> {
 
     // Names with commas between them, and `;`.
     fn names(&mut self, kind: Kind) -> Result<(), GrammarFault>
-        requires { Ready 0 self.old }
         ensures { Done 0 0 (a_simple kind ∷ comma false kind ∷ []) self.old self.new result }
     {
         self.simple(kind)?;
@@ -65,7 +64,6 @@ impl Reader<'_, '_> {
 
     // Items of an array declaration with commas between them, and `;`.
     fn items(&mut self, kind: Kind) -> Result<(), GrammarFault>
-        requires { Ready 0 self.old }
         ensures { Done 0 0 (an_item kind ∷ comma true kind ∷ []) self.old self.new result }
     {
         self.item(kind)?;
@@ -77,7 +75,6 @@ impl Reader<'_, '_> {
     }
 
     fn simple(&mut self, kind: Kind) -> Result<(), GrammarFault>
-        requires { Ready 0 self.old }
         ensures { Done 0 0 (a_simple kind ∷ []) self.old self.new result }
     {
         let (n, place) = self.name()?;
@@ -87,7 +84,6 @@ impl Reader<'_, '_> {
 
     // name (d:d)
     fn item(&mut self, kind: Kind) -> Result<(), GrammarFault>
-        requires { Ready 0 self.old }
         ensures { Done 0 0 (an_item kind ∷ []) self.old self.new result }
     {
         let (n, place) = self.name()?;
@@ -97,7 +93,6 @@ impl Reader<'_, '_> {
 
     // d:d)
     fn bounds(&mut self, kind: Kind, n: Name, place: usize) -> Result<(), GrammarFault>
-        requires { Ready 0 self.old }
         ensures { Done 0 0 (a_low kind (name_of n) place ∷ []) self.old self.new result }
     {
         let (low, at) = self.number()?;
@@ -110,7 +105,6 @@ impl Reader<'_, '_> {
 
     // BEGIN, declarations, statements, END, `.`, and nothing more.
     pub(crate) fn program(&mut self) -> Result<(), GrammarFault>
-        requires { Ready 0 self.old }
         ensures { ProgramDone self.old self.new result }
     {
         self.keyword(Keyword::Begin)?;
@@ -122,4 +116,20 @@ impl Reader<'_, '_> {
         }
         Ok(())
     }
+}
+
+// Reads all of `source` as a program. There is room for two entries a byte.
+pub(crate) fn whole(source: &[u8], out: &mut Nodes) -> Result<(), GrammarFault>
+    requires { length out.old + 2 * length source.now ≤ 65536 }
+    ensures { WholeDone source.now (entries out.old) (entries out.new) result }
+{
+    let end = source.len();
+    let (ahead, rest) = scan(source, end);
+    let mut reader = Reader {
+        ahead,
+        rest,
+        end,
+        out,
+    };
+    reader.program()
 }

@@ -7,7 +7,8 @@ ghost use Rattle.syntax.specs.Readers.{Ready, Done, FirstDone, AgainDone};
 use crate::fault::GrammarFault;
 use crate::lexeme::Strength;
 use crate::node::Node;
-use crate::reader::{Reader, put};
+use crate::reader::Reader;
+use crate::reader::tokens::put;
 use text::name::Name;
 use text::token::{Keyword, Symbol};
 
@@ -15,7 +16,6 @@ impl Reader<'_, '_> {
     // Operands of what is stronger than `s`, joined by operators of `s` from the left.
     #[cycle(expressions)]
     pub(crate) fn chain(&mut self, s: Strength, levels: u8) -> Result<(), GrammarFault>
-        requires { Ready 0 self.old }
         ensures { Done 0 1 (wants s levels) self.old self.new result }
     {
         self.first(s, levels)?;
@@ -26,7 +26,6 @@ impl Reader<'_, '_> {
     // An operator of strength `s` and the operand right of it, if there is one.
     #[cycle(expressions)]
     fn joined(&mut self, s: Strength, levels: u8) -> Result<bool, GrammarFault>
-        requires { Ready 0 self.old }
         ensures { AgainDone (more s levels) self.old self.new result }
     {
         let Some(o) = self.ahead.operator(s) else {
@@ -42,7 +41,6 @@ impl Reader<'_, '_> {
     // The leftmost operand of operators of strength `s`.
     #[cycle(expressions)]
     fn first(&mut self, s: Strength, levels: u8) -> Result<(), GrammarFault>
-        requires { Ready 0 self.old }
         ensures { FirstDone s levels self.old self.new result }
     {
         match s {
@@ -58,7 +56,6 @@ impl Reader<'_, '_> {
     // The operand right of an operator of strength `s`.
     #[cycle(expressions)]
     fn operand(&mut self, s: Strength, levels: u8) -> Result<(), GrammarFault>
-        requires { Ready 0 self.old }
         ensures { Done 0 1 (right s levels) self.old self.new result }
     {
         match s {
@@ -74,7 +71,6 @@ impl Reader<'_, '_> {
     // LNOT and what it applies to, or a sum and perhaps another that it is compared with.
     #[cycle(expressions)]
     fn relation(&mut self, levels: u8) -> Result<(), GrammarFault>
-        requires { Ready 0 self.old }
         ensures { Done 0 1 (a_relation levels ∷ []) self.old self.new result }
     {
         if self.ahead.is_keyword(Keyword::Lnot) {
@@ -94,7 +90,6 @@ impl Reader<'_, '_> {
     // Perhaps a relation's operator, and the sum right of it.
     #[cycle(expressions)]
     fn compare(&mut self, levels: u8) -> Result<(), GrammarFault>
-        requires { Ready 0 self.old }
         ensures { Done 0 0 (a_compare levels ∷ []) self.old self.new result }
     {
         if let Some(o) = self.ahead.operator(Strength::Relation) {
@@ -109,7 +104,6 @@ impl Reader<'_, '_> {
     // The first term of a sum, perhaps with `-` before the whole of it.
     #[cycle(expressions)]
     fn lead(&mut self, levels: u8) -> Result<(), GrammarFault>
-        requires { Ready 0 self.old }
         ensures { Done 0 1 (a_lead levels ∷ []) self.old self.new result }
     {
         if self.ahead.is_symbol(Symbol::Minus) {
@@ -125,7 +119,6 @@ impl Reader<'_, '_> {
     // primary {field or & shift}
     #[cycle(expressions)]
     fn factor(&mut self, levels: u8) -> Result<(), GrammarFault>
-        requires { Ready 0 self.old }
         ensures { Done 0 1 (a_primary levels ∷ fields ∷ []) self.old self.new result }
     {
         self.primary(levels)?;
@@ -134,7 +127,6 @@ impl Reader<'_, '_> {
 
     #[cycle(expressions)]
     fn primary(&mut self, levels: u8) -> Result<(), GrammarFault>
-        requires { Ready 0 self.old }
         ensures { Done 0 1 (a_primary levels ∷ []) self.old self.new result }
     {
         if let Some((v, kind)) = self.ahead.literal() {
@@ -175,7 +167,6 @@ impl Reader<'_, '_> {
     // An expression in parentheses, which are a level.
     #[cycle(expressions)]
     pub(crate) fn paren(&mut self, levels: u8) -> Result<(), GrammarFault>
-        requires { Ready 0 self.old }
         ensures { Done 0 2 (a_paren levels ∷ []) self.old self.new result }
     {
         if !self.ahead.is_symbol(Symbol::Open) {

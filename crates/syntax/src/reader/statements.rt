@@ -8,7 +8,8 @@ ghost use Rattle.syntax.specs.Readers.{Ready, Done, StatementDone};
 use crate::fault::GrammarFault;
 use crate::lexeme::{Opening, Strength};
 use crate::node::Node;
-use crate::reader::{Reader, put};
+use crate::reader::Reader;
+use crate::reader::tokens::put;
 use text::name::Name;
 use text::token::{Keyword, Symbol};
 
@@ -16,7 +17,6 @@ impl Reader<'_, '_> {
     // A statement, perhaps an empty one.
     #[cycle(statements)]
     fn statement(&mut self, levels: u8) -> Result<(), GrammarFault>
-        requires { Ready 0 self.old }
         ensures { StatementDone levels self.old self.new result }
     {
         self.begun(levels)
@@ -25,7 +25,6 @@ impl Reader<'_, '_> {
     // A statement by its first token.
     #[cycle(statements)]
     fn begun(&mut self, levels: u8) -> Result<(), GrammarFault>
-        requires { Ready 0 self.old }
         ensures { Done 0 0 (stmt levels ∷ []) self.old self.new result }
     {
         let place = self.ahead.place;
@@ -62,7 +61,6 @@ impl Reader<'_, '_> {
     // statement {; statement} END
     #[cycle(statements)]
     pub(crate) fn block(&mut self, levels: u8) -> Result<(), GrammarFault>
-        requires { Ready 0 self.old }
         ensures { Done 0 0 (stmt levels ∷ a_block levels ∷ []) self.old self.new result }
     {
         self.statement(levels)?;
@@ -121,7 +119,6 @@ impl Reader<'_, '_> {
     // The statements of a CASE, up to its END.
     #[cycle(statements)]
     fn arms(&mut self, levels: u8) -> Result<(), GrammarFault>
-        requires { Ready 0 self.old }
         ensures { Done 0 0 (stmt levels ∷ some_arms levels ∷ []) self.old self.new result }
     {
         self.statement(levels)?;
@@ -183,7 +180,6 @@ impl Reader<'_, '_> {
     // STEP and its value, or 1; then UNTIL.
     #[cycle(statements)]
     fn stepped(&mut self, n: Name, at: usize, place: usize, levels: u8) -> Result<(), GrammarFault>
-        requires { Ready 0 self.old }
         ensures { Done 0 0 (a_step (name_of n) at place levels ∷ []) self.old self.new result }
     {
         if self.ahead.is_keyword(Keyword::Step) {
@@ -201,7 +197,6 @@ impl Reader<'_, '_> {
     // The limit of a FOR, DO and its statement.
     #[cycle(statements)]
     fn turns(&mut self, n: Name, at: usize, place: usize, levels: u8) -> Result<(), GrammarFault>
-        requires { Ready 0 self.old }
         ensures { Done 0 0 (the_turns (name_of n) at place levels ∷ []) self.old self.new result }
     {
         self.chain(Strength::Lor, levels)?;
