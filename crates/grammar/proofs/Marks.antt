@@ -19,13 +19,13 @@ use Rattle.syntax.specs.Marks.{Mark, keyword, symbol, name, number, stop, seen, 
 
 -- Booleans and options
 pub apart : {A : Type 0} → true ≡ false → A
-apart h = absurd (let z : ◌≡◌ {A = ℕ} 0 1 = cc in omega arith)
+apart h = absurd cc
 
 pub both : {A : Type 0} {b : Bool} → b ≡ true → b ≡ false → A
 both p q = apart (sym p ∙ q)
 
 pub empty : {A B : Type 0} {x : A} {o : Option A} → o ≡ Some x → o ≡ None → B
-empty p q = absurd (let z : ◌≡◌ {A = ℕ} 0 1 = cc in omega arith)
+empty p q = absurd cc
 
 pub not_true : {b : Bool} → (b ≡ true → ⊥) → b ≡ false
 not_true {b} h = go b h
@@ -84,15 +84,15 @@ word_kind kw.Lsr h = refl
 word_kind kw.Asr h = refl
 word_kind kw.Csl h = refl
 word_kind kw.Csr h = refl
-word_kind kw.True h = absurd (let z : ◌≡◌ {A = ℕ} 0 1 = cc in omega arith)
-word_kind kw.False h = absurd (let z : ◌≡◌ {A = ℕ} 0 1 = cc in omega arith)
+word_kind kw.True h = absurd cc
+word_kind kw.False h = absurd cc
 word_kind kw.Comment h = refl
 
 pub kind_literal : (m : Mark) {k : Kind} → kind_of m ≡ Some k → literal_of m ≡ None
 kind_literal (keyword w) h = word_kind w h
 kind_literal (symbol s) h = refl
 kind_literal (name n) h = refl
-kind_literal (number k v) h = absurd (let z : ◌≡◌ {A = ℕ} 0 1 = cc in omega arith)
+kind_literal (number k v) h = absurd cc
 kind_literal stop h = refl
 
 -- the strengths from the weakest
@@ -144,8 +144,8 @@ suffix_none sign.AtMost o h = refl
 suffix_none sign.AtLeast o h = refl
 suffix_none sign.Semicolon o h = refl
 suffix_none sign.Comma o h = refl
-suffix_none sign.Dot o h = absurd (let z : ◌≡◌ {A = ℕ} 0 1 = cc in omega arith)
-suffix_none sign.Open o h = absurd (let z : ◌≡◌ {A = ℕ} 0 1 = cc in omega arith)
+suffix_none sign.Dot o h = absurd cc
+suffix_none sign.Open o h = absurd cc
 suffix_none sign.Close o h = refl
 suffix_none sign.Colon o h = refl
 suffix_none sign.Equal o h = refl
@@ -155,7 +155,7 @@ suffix_none sign.Plus o h = refl
 suffix_none sign.Minus o h = refl
 suffix_none sign.Times o h = refl
 suffix_none sign.Divide o h = refl
-suffix_none sign.Ampersand o h = absurd (let z : ◌≡◌ {A = ℕ} 0 1 = cc in omega arith)
+suffix_none sign.Ampersand o h = absurd cc
 
 kept_rank : (s : Strength) (x : Option Operator) {o : Operator} → kept s x ≡ Some o → grip_of x ≡ suc (rank_of s)
 kept_rank s None h = empty (sym h ∙ h) (sym h)
@@ -163,7 +163,7 @@ kept_rank s (Some x) {o} h = go (same_strength s (strength_of x)) refl h
   where
     go : (b : Bool) → same_strength s (strength_of x) ≡ b → cond b (Some x) None ≡ Some o → suc (rank_of (strength_of x)) ≡ suc (rank_of s)
     go true e h = ap (λ r. suc (rank_of r)) (sym (same_true strength_type tt s (strength_of x) e))
-    go false e h = absurd (let z : ◌≡◌ {A = ℕ} 0 1 = cc in omega arith)
+    go false e h = absurd cc
 
 some_of : (s : Strength) (x : Option Operator) {o : Operator} → kept s x ≡ Some o → (y : Operator) × (x ≡ Some y)
 some_of s None h = empty (sym h ∙ h) (sym h)
@@ -176,9 +176,9 @@ operator_grip s (symbol x) h =
     let y = some_of s (operator_sign x) h in
     let b = suffix_none x y.0 y.1 in
     omega arith
-operator_grip s (name n) h = absurd (let z : ◌≡◌ {A = ℕ} 0 1 = cc in omega arith)
-operator_grip s (number k v) h = absurd (let z : ◌≡◌ {A = ℕ} 0 1 = cc in omega arith)
-operator_grip s stop h = absurd (let z : ◌≡◌ {A = ℕ} 0 1 = cc in omega arith)
+operator_grip s (name n) h = absurd cc
+operator_grip s (number k v) h = absurd cc
+operator_grip s stop h = absurd cc
 
 kept_none : (s : Strength) (x : Option Operator) → grip_of x ≤ rank_of s → kept s x ≡ None
 kept_none s None h = refl
