@@ -3,8 +3,10 @@ use Rattle.std.specs.Prelude.{◌≡◌, ℕ, ◌+◌, ◌*◌, ◌<◌, ◌≤�
 use Rattle.syntax.specs.declared.fault.GrammarFault.{GrammarFault}
 use Rattle.syntax.specs.declared.fault.GrammarFault.TheVariants.{Unexpected}
 use Rattle.syntax.specs.declared.lexeme.Strength.{Strength}
+use Rattle.syntax.specs.declared.reader.Named.{Named}
+use Rattle.syntax.specs.declared.reader.Range.{Range}
 use Rattle.syntax.specs.declared.reader.Reader.{Reader}
-use Rattle.text.specs.declared.name.Name.{Name}
+use Rattle.text.specs.declared.token.Kind.{Kind}
 use Rattle.text.specs.declared.token.Symbol.TheVariants as sign
 use Rattle.text.specs.Names.{name_of}
 use Rattle.syntax.specs.Faults.{refusal_of}
@@ -12,7 +14,7 @@ use Rattle.syntax.specs.Entries.{Entry, entries}
 use Rattle.syntax.specs.Entries as entry
 use Rattle.text.specs.declared.token.Keyword.TheVariants as kw
 use Rattle.syntax.specs.Marks.{mark_of, tok_of, live, decimal_of, spelled_of}
-use Rattle.syntax.specs.Machine.{Goal, Use, Parsed, sym as symbol, word, put, bits, more, stmt, block, arms, otherwise, condition, used, wants, program, feed, behind}
+use Rattle.syntax.specs.Machine.{Goal, Use, Parsed, sym as symbol, word, put, bits, low, more, stmt, block, arms, otherwise, condition, used, wants, program, feed, behind}
 
 -- the bytes left to read, one more for the token ahead
 abbrev pub weight : Reader → ℕ
@@ -73,21 +75,22 @@ abbrev pub DecimalTaken : Reader → Reader → Result (ℕ × ℕ) GrammarFault
 DecimalTaken r r' (Ok x) = Took (decimal_of (mark_of r.ahead.sort)) x.0 x.1 r r'
 DecimalTaken r r' (Err e) = Missed (decimal_of (mark_of r.ahead.sort)) e r r'
 
-abbrev pub NameTaken : Reader → Reader → Result (Name × ℕ) GrammarFault → Type 0
-NameTaken r r' (Ok x) = Took (spelled_of (mark_of r.ahead.sort)) (name_of x.0) x.1 r r'
+abbrev pub NameTaken : Reader → Reader → Result Named GrammarFault → Type 0
+NameTaken r r' (Ok n) = Took (spelled_of (mark_of r.ahead.sort)) (name_of n.name) n.place r r'
 NameTaken r r' (Err e) = Missed (spelled_of (mark_of r.ahead.sort)) e r r'
 
--- the numbers of a field with their parentheses, whatever they are for
-abbrev pub RangeDone : Reader → Reader → Result (ℕ × ℕ × ℕ) GrammarFault → Type 0
-RangeDone r r' (Ok x) =
-    Kept r r' × Fits 0 2 r r' × ((u : Use) (k : List Goal) → runs r (symbol sign.Open ∷ bits u ∷ k) ≡ runs r' (used u x.0 x.1 x.2 k))
-RangeDone r r' (Err e) = Kept r r' × ((u : Use) (k : List Goal) → runs r (symbol sign.Open ∷ bits u ∷ k) ≡ Err (refusal_of e))
+-- two numbers in parentheses, whether they are a field's, whatever that is for, or an array's bounds
+pub record Ranged (x : Range) (r r' : Reader) : Type 0 where
+  pub field : (u : Use) (k : List Goal) → runs r (symbol sign.Open ∷ bits u ∷ k) ≡ runs r' (used u x.first x.second x.place k)
+  pub bounds : (c : Kind) (n : List ℕ) (p : ℕ) (k : List Goal) → runs r (symbol sign.Open ∷ low c n p ∷ k) ≡ runs r' (put (entry.Array n c x.first x.second p x.place) ∷ k)
 
--- a goal that may be met again and again was met once more and waits again; or it is dropped
-abbrev pub AgainDone : Goal → Reader → Reader → Result Bool GrammarFault → Type 0
-AgainDone g r r' (Ok true) = Kept r r' × Fits 0 0 r r' × (weight r' < weight r) × ((k : List Goal) → runs r (g ∷ k) ≡ runs r' (g ∷ k))
-AgainDone g r r' (Ok false) = Kept r r' × Fits 0 0 r r' × ((k : List Goal) → runs r (g ∷ k) ≡ runs r' k)
-AgainDone g r r' (Err e) = Kept r r' × ((k : List Goal) → runs r (g ∷ k) ≡ Err (refusal_of e))
+pub record Unranged (r : Reader) (e : GrammarFault) : Type 0 where
+  pub field : (u : Use) (k : List Goal) → runs r (symbol sign.Open ∷ bits u ∷ k) ≡ Err (refusal_of e)
+  pub bounds : (c : Kind) (n : List ℕ) (p : ℕ) (k : List Goal) → runs r (symbol sign.Open ∷ low c n p ∷ k) ≡ Err (refusal_of e)
+
+abbrev pub RangeDone : Reader → Reader → Result Range GrammarFault → Type 0
+RangeDone r r' (Ok x) = Kept r r' × Fits 0 2 r r' × Ranged x r r'
+RangeDone r r' (Err e) = Kept r r' × Unranged r e
 
 -- of an operand of this strength all is read up to the first operator
 abbrev pub FirstDone : Strength → (l : ℕ) → Reader → Reader → Result (Unit {0}) GrammarFault → Type 0

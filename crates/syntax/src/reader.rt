@@ -4,6 +4,7 @@ ghost use Rattle.syntax.specs.Marks.{mark_of, live};
 
 use crate::lexeme::Lexeme;
 use crate::node::Nodes;
+use text::name::Name;
 
 mod assignments;
 mod conditions;
@@ -14,6 +15,21 @@ mod statements;
 mod tokens;
 
 pub(crate) use declarations::whole;
+
+// A name, and its place.
+#[derive(Clone, Copy)]
+pub struct Named {
+    name: Name,
+    place: usize,
+}
+
+// Two numbers in parentheses, and the place of the first.
+#[derive(Clone, Copy)]
+pub struct Range {
+    first: u16,
+    second: u16,
+    place: usize,
+}
 
 #[derive(Drop)]
 pub struct Reader<'a, 'w> {

@@ -1,15 +1,14 @@
 // The readers of expressions, primaries and subscripts, which contain one another.
 ghost use Rattle.std.specs.Prelude.{[], ◌∷◌};
 ghost use Rattle.text.specs.Names.{name_of};
-ghost use Rattle.syntax.specs.Machine.{wants, right, more, fields, relation as a_relation, lead as a_lead, compare as a_compare, primary as a_primary, named as a_named, paren as a_paren};
-ghost use Rattle.syntax.specs.Readers.{Ready, Done, FirstDone, AgainDone};
+ghost use Rattle.syntax.specs.Machine.{wants, right, fields, relation as a_relation, lead as a_lead, compare as a_compare, primary as a_primary, named as a_named, paren as a_paren};
+ghost use Rattle.syntax.specs.Readers.{Ready, Done, FirstDone};
 
 use crate::fault::GrammarFault;
 use crate::lexeme::Strength;
 use crate::node::Node;
-use crate::reader::Reader;
+use crate::reader::{Named, Reader};
 use crate::reader::tokens::put;
-use text::name::Name;
 use text::token::{Keyword, Symbol};
 
 impl Reader<'_, '_> {
@@ -19,23 +18,13 @@ impl Reader<'_, '_> {
         ensures { Done 0 1 (wants s levels) self.old self.new result }
     {
         self.first(s, levels)?;
-        while self.joined(s, levels)? {}
+        while let Some(o) = self.ahead.operator(s) {
+            let place = self.ahead.place;
+            self.advance();
+            self.operand(s, levels)?;
+            put(self.out, Node::Binary(o, place));
+        }
         Ok(())
-    }
-
-    // An operator of strength `s` and the operand right of it, if there is one.
-    #[cycle(expressions)]
-    fn joined(&mut self, s: Strength, levels: u8) -> Result<bool, GrammarFault>
-        ensures { AgainDone (more s levels) self.old self.new result }
-    {
-        let Some(o) = self.ahead.operator(s) else {
-            return Ok(false);
-        };
-        let place = self.ahead.place;
-        self.advance();
-        self.operand(s, levels)?;
-        put(self.out, Node::Binary(o, place));
-        Ok(true)
     }
 
     // The leftmost operand of operators of strength `s`.
@@ -44,12 +33,8 @@ impl Reader<'_, '_> {
         ensures { FirstDone s levels self.old self.new result }
     {
         match s {
-            Strength::Lor => self.chain(Strength::Xor, levels),
-            Strength::Xor => self.chain(Strength::Land, levels),
-            Strength::Land => self.relation(levels),
-            Strength::Relation => self.chain(Strength::Sum, levels),
             Strength::Sum => self.lead(levels),
-            Strength::Term => self.factor(levels),
+            _ => self.operand(s, levels),
         }
     }
 
@@ -140,27 +125,27 @@ impl Reader<'_, '_> {
             put(self.out, Node::Convert(kind));
             return Ok(());
         }
-        if let Some(n) = self.ahead.name() {
+        if let Some(name) = self.ahead.name() {
             let place = self.ahead.place;
             self.advance();
-            return self.named(n, place, levels);
+            return self.named(Named { name, place }, levels);
         }
         self.paren(levels)
     }
 
     // What may follow a name: its subscript.
     #[cycle(expressions)]
-    fn named(&mut self, n: Name, place: usize, levels: u8) -> Result<(), GrammarFault>
+    fn named(&mut self, n: Named, levels: u8) -> Result<(), GrammarFault>
         requires { Ready 2 self.old }
-        ensures { Done 2 1 (a_named (name_of n) place levels ∷ []) self.old self.new result }
+        ensures { Done 2 1 (a_named (name_of n.name) n.place levels ∷ []) self.old self.new result }
     {
         if self.ahead.is_symbol(Symbol::Open) {
             let paren = self.ahead.place;
             self.paren(levels)?;
-            put(self.out, Node::Index(n, place, paren));
+            put(self.out, Node::Index(n.name, n.place, paren));
             return Ok(());
         }
-        put(self.out, Node::Load(n, place));
+        put(self.out, Node::Load(n.name, n.place));
         Ok(())
     }
 

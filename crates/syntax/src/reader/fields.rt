@@ -3,7 +3,7 @@ ghost use Rattle.std.specs.Prelude.{[], ◌∷◌};
 ghost use Rattle.text.specs.declared.token.Symbol.TheVariants.{Open};
 ghost use Rattle.syntax.specs.Machine.{sym, bits, part};
 ghost use Rattle.syntax.specs.Machine.{shift as shifted, fields as fielded};
-ghost use Rattle.syntax.specs.Readers.{Done, AgainDone};
+ghost use Rattle.syntax.specs.Readers.{Done};
 
 use crate::fault::GrammarFault;
 use crate::node::Node;
@@ -16,8 +16,11 @@ impl Reader<'_, '_> {
     fn field(&mut self) -> Result<(), GrammarFault>
         ensures { Done 0 1 (sym Open ∷ bits part ∷ []) self.old self.new result }
     {
-        let (a, b, place) = self.range()?;
-        put(self.out, Node::Field(a, b, place));
+        let field = self.range()?;
+        put(
+            self.out,
+            Node::Field(field.first, field.second, field.place),
+        );
         Ok(())
     }
 
@@ -25,9 +28,7 @@ impl Reader<'_, '_> {
     fn shift(&mut self) -> Result<(), GrammarFault>
         ensures { Done 0 2 (shifted ∷ []) self.old self.new result }
     {
-        let Some(kind) = self.ahead.shift() else {
-            return Err(self.ahead.unexpected());
-        };
+        let kind = self.ahead.shift().ok_or(self.ahead.unexpected())?;
         self.advance();
         self.symbol(Symbol::Open)?;
         let (n, place) = self.number()?;
@@ -36,28 +37,20 @@ impl Reader<'_, '_> {
         Ok(())
     }
 
-    // One field or shift, if there is one.
-    fn postfix(&mut self) -> Result<bool, GrammarFault>
-        ensures { AgainDone fielded self.old self.new result }
-    {
-        if self.ahead.is_symbol(Symbol::Dot) {
-            self.advance();
-            self.field()?;
-            return Ok(true);
-        }
-        if self.ahead.is_symbol(Symbol::Ampersand) {
-            self.advance();
-            self.shift()?;
-            return Ok(true);
-        }
-        Ok(false)
-    }
-
     // {field or & shift}
     pub(crate) fn fields(&mut self) -> Result<(), GrammarFault>
         ensures { Done 0 0 (fielded ∷ []) self.old self.new result }
     {
-        while self.postfix()? {}
-        Ok(())
+        loop {
+            if self.ahead.is_symbol(Symbol::Dot) {
+                self.advance();
+                self.field()?;
+            } else if self.ahead.is_symbol(Symbol::Ampersand) {
+                self.advance();
+                self.shift()?;
+            } else {
+                return Ok(());
+            }
+        }
     }
 }

@@ -8,9 +8,8 @@ ghost use Rattle.syntax.specs.Readers.{Ready, Done, StatementDone};
 use crate::fault::GrammarFault;
 use crate::lexeme::{Opening, Strength};
 use crate::node::Node;
-use crate::reader::Reader;
+use crate::reader::{Named, Reader};
 use crate::reader::tokens::put;
-use text::name::Name;
 use text::token::{Keyword, Symbol};
 
 impl Reader<'_, '_> {
@@ -28,9 +27,9 @@ impl Reader<'_, '_> {
         ensures { Done 0 0 (stmt levels ∷ []) self.old self.new result }
     {
         let place = self.ahead.place;
-        if let Some(n) = self.ahead.name() {
+        if let Some(name) = self.ahead.name() {
             self.advance();
-            return self.target(n, place, levels);
+            return self.target(Named { name, place }, levels);
         }
         let Some(opening) = self.ahead.opening() else {
             return Ok(());
@@ -170,40 +169,40 @@ impl Reader<'_, '_> {
         requires { Ready 2 self.old }
         ensures { Done 2 0 (variable place levels ∷ []) self.old self.new result }
     {
-        let (n, at) = self.name()?;
+        let n = self.name()?;
         self.symbol(Symbol::Becomes)?;
         self.chain(Strength::Lor, levels)?;
-        put(self.out, Node::First(n, at, place));
-        self.stepped(n, at, place, levels)
+        put(self.out, Node::First(n.name, n.place, place));
+        self.stepped(n, place, levels)
     }
 
     // STEP and its value, or 1; then UNTIL.
     #[cycle(statements)]
-    fn stepped(&mut self, n: Name, at: usize, place: usize, levels: u8) -> Result<(), GrammarFault>
-        ensures { Done 0 0 (a_step (name_of n) at place levels ∷ []) self.old self.new result }
+    fn stepped(&mut self, n: Named, place: usize, levels: u8) -> Result<(), GrammarFault>
+        ensures { Done 0 0 (a_step (name_of n.name) n.place place levels ∷ []) self.old self.new result }
     {
         if self.ahead.is_keyword(Keyword::Step) {
             self.advance();
             self.chain(Strength::Lor, levels)?;
             put(self.out, Node::Step(place));
             self.keyword(Keyword::Until)?;
-            return self.turns(n, at, place, levels);
+            return self.turns(n, place, levels);
         }
         self.keyword(Keyword::Until)?;
         put(self.out, Node::One);
-        self.turns(n, at, place, levels)
+        self.turns(n, place, levels)
     }
 
     // The limit of a FOR, DO and its statement.
     #[cycle(statements)]
-    fn turns(&mut self, n: Name, at: usize, place: usize, levels: u8) -> Result<(), GrammarFault>
-        ensures { Done 0 0 (the_turns (name_of n) at place levels ∷ []) self.old self.new result }
+    fn turns(&mut self, n: Named, place: usize, levels: u8) -> Result<(), GrammarFault>
+        ensures { Done 0 0 (the_turns (name_of n.name) n.place place levels ∷ []) self.old self.new result }
     {
         self.chain(Strength::Lor, levels)?;
-        put(self.out, Node::For(n, at, place));
+        put(self.out, Node::For(n.name, n.place, place));
         self.keyword(Keyword::Do)?;
         self.statement(levels)?;
-        put(self.out, Node::Next(n));
+        put(self.out, Node::Next(n.name));
         put(self.out, Node::Drop);
         Ok(())
     }

@@ -6,9 +6,8 @@ ghost use Rattle.syntax.specs.Readers.{Done, Advanced, DecimalTaken, NameTaken, 
 
 use crate::fault::GrammarFault;
 use crate::node::{Node, Nodes};
-use crate::reader::Reader;
+use crate::reader::{Named, Range, Reader};
 use crate::scan::scan;
-use text::name::Name;
 use text::token::{Keyword, Symbol};
 
 // Writes an entry into the room that was reserved.
@@ -55,34 +54,33 @@ impl Reader<'_, '_> {
         ensures { DecimalTaken self.old self.new result }
     {
         let place = self.ahead.place;
-        let Some(v) = self.ahead.decimal() else {
-            return Err(GrammarFault::Unexpected(place));
-        };
+        let v = self.ahead.decimal().ok_or(self.ahead.unexpected())?;
         self.advance();
         Ok((v, place))
     }
 
-    // A name, and its place.
-    pub(crate) fn name(&mut self) -> Result<(Name, usize), GrammarFault>
+    pub(crate) fn name(&mut self) -> Result<Named, GrammarFault>
         ensures { NameTaken self.old self.new result }
     {
         let place = self.ahead.place;
-        let Some(n) = self.ahead.name() else {
-            return Err(GrammarFault::Unexpected(place));
-        };
+        let name = self.ahead.name().ok_or(self.ahead.unexpected())?;
         self.advance();
-        Ok((n, place))
+        Ok(Named { name, place })
     }
 
-    // (d:d), and the place of the first number
-    pub(crate) fn range(&mut self) -> Result<(u16, u16, usize), GrammarFault>
+    // (d:d)
+    pub(crate) fn range(&mut self) -> Result<Range, GrammarFault>
         ensures { RangeDone self.old self.new result }
     {
         self.symbol(Symbol::Open)?;
-        let (a, place) = self.number()?;
+        let (first, place) = self.number()?;
         self.symbol(Symbol::Colon)?;
-        let (b, _) = self.number()?;
+        let (second, _) = self.number()?;
         self.symbol(Symbol::Close)?;
-        Ok((a, b, place))
+        Ok(Range {
+            first,
+            second,
+            place,
+        })
     }
 }
