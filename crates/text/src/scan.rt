@@ -170,6 +170,7 @@ impl<'a> Rest<'a> {
 }
 
 // The next token of `text`, which stops at the place `end`, and the text after it; none at its end.
+// The two are no struct: a reader that calls holds them in its own, and would put them together at each call.
 pub fn next<'a>(text: &'a [u8], end: usize) -> Result<Option<(Token<'a>, &'a [u8])>, TextFault>
     ensures exact { nexted result ≡ next_of end text.now }
     ensures steps { Steps end text.now result }

@@ -5,7 +5,7 @@ ghost use Rattle.text.specs.Lexemes.{base_of, digit_of, kind_text, most_of, symb
 use std::fmt;
 
 // A part of the source, with its place: the offset of its first byte.
-#[derive(Clone, Copy)]
+#[derive(Clone, Copy, PartialEq, Eq, Debug)]
 pub enum Token<'a> {
     // its bytes, its place
     Word(&'a [u8], usize),
