@@ -168,7 +168,7 @@ impl Bench {
     // Whether a line `REQUEST -> ANSWER` of a table holds; a difference is printed.
     fn holds(&mut self, rt: &HostRuntime, line: &[u8]) -> anyhow::Result<bool> {
         let arrow = b" -> ";
-        let Some(i) = line.windows(4).position(|w| w == arrow) else {
+        let Some(i) = line.windows(4).position(|w| w.starts_with(arrow)) else {
             println!(rt; "a line has no ` -> `")?;
             return Ok(false);
         };

@@ -76,7 +76,7 @@ fn nibble(b: u8) -> Result<u8, Problem> {
 // Two digits a byte, `-` for none; the bytes take the place of those in `out`.
 pub fn hex(text: &[u8], out: &mut Vec<u8>) -> Result<(), Problem> {
     out.clear();
-    if text == b"-" {
+    if let [b'-'] = text {
         return Ok(());
     }
     if text.len() % 2 != 0 {
@@ -108,7 +108,7 @@ fn instr(text: &[u8]) -> Result<Instr, Problem> {
 // Records joined by `;`, `-` for none; they take the place of those in `out`.
 pub fn instrs(text: &[u8], out: &mut Vec<Instr>) -> Result<(), Problem> {
     out.clear();
-    if text == b"-" {
+    if let [b'-'] = text {
         return Ok(());
     }
     for record in text.split(|b| *b == b';') {
