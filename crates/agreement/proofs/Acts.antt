@@ -17,9 +17,10 @@ use Rattle.typed.specs.Lists.{op_instr, uop_instr}
 use Rattle.typed.specs.Trees.{add, sub, mul, div, rem, ladd, lsub, lmul, ldiv, lrem, cmp, lcmp, land, lor, lxor, Uop, neg, not, fld, shf}
 use Rattle.typed.specs.Trees.{Op as Binary}
 use Rattle.machine.specs.declared.ending.Ending.TheVariants.{Halted}
-use Rattle.machine.specs.declared.op.Op.{Op}
-use Rattle.machine.specs.declared.op.Op.TheVariants.{Halt, Lit, Load, Stor, Ldx, Stx, Chk, Dup, Drop, Add, Sub, Mul, Div, Rem, Neg, Ladd, Lsub, Lmul, Ldiv, Lrem, Cmp, Lcmp, And, Or, Xor, Not, Fld, Dep, Shf, Br, Bre, Case, For, Next}
-use Rattle.machine.specs.Table.{decoded, then, fine, wants, stopped, cell_of, push, act, On, Push, Write as Puts}
+use Rattle.words.specs.declared.op.Op.{Op}
+use Rattle.words.specs.declared.op.Op.TheVariants.{Halt, Lit, Load, Stor, Ldx, Stx, Chk, Dup, Drop, Add, Sub, Mul, Div, Rem, Neg, Ladd, Lsub, Lmul, Ldiv, Lrem, Cmp, Lcmp, And, Or, Xor, Not, Fld, Dep, Shf, Br, Bre, Case, For, Next}
+use Rattle.machine.specs.declared.vm.Move.TheVariants.{On, Push, Write as Puts}
+use Rattle.machine.specs.Table.{decoded, then, fine, wants, stopped, cell_of, push, act}
 use Rattle.machine.specs.Stacks.{hd, tl, off}
 use Rattle.meaning.specs.Effects.{Store, put, says, load, store, element, loaded, place, filled, goes_on, advance, stored, prim}
 use Rattle.meaning.specs.Meaning.{works, works_on, WithinU}

@@ -4,8 +4,7 @@ use Rattle.words.specs.declared.instr.Instr.{Instr}
 use Rattle.machine.specs.declared.ending.Ending.{Ending}
 use Rattle.machine.specs.declared.ending.Ending.TheVariants.{Stopped, TooHigh, Outside}
 use Rattle.machine.specs.declared.vm.Move.{Move}
-use Rattle.machine.specs.declared.vm.Kind.{Kind}
-use Rattle.machine.specs.declared.vm.Kind.TheVariants.{Goes, Pushes, Writes}
+use Rattle.machine.specs.declared.vm.Move.TheVariants.{On, Push, Write as Puts}
 use Rattle.machine.specs.Table.{decoded, then, readied, act}
 use Rattle.machine.specs.Stacks.{hd, tl, off}
 use Rattle.meaning.specs.Effects.{Store, Write, put, Did, did, fails}
@@ -20,13 +19,13 @@ pub data Way : Type 0 where
   halt : Ending → Way
 
 -- a move is made, at the place p
-abbrev pub laid : Kind → ℕ → Move → ℕ → List ℕ → Store → Way
-laid Goes d m p st σ = on [] (at m.place (off m.pops st))
-laid Pushes d m p st σ = cond (ltb (length (off m.pops st)) d) (on [] (at (suc p) (m.word ∷ off m.pops st))) (halt TooHigh)
-laid Writes d m p st σ = cond (ltb m.cell (length σ)) (on (put m.cell m.word ∷ []) (at m.place (off m.pops st))) (halt Outside)
+abbrev pub laid : ℕ → Move → ℕ → List ℕ → Store → Way
+laid d (On k q) p st σ = on [] (at q (off k st))
+laid d (Push k w) p st σ = cond (ltb (length (off k st)) d) (on [] (at (suc p) (w ∷ off k st))) (halt TooHigh)
+laid d (Puts k c w q) p st σ = cond (ltb c (length σ)) (on (put c w ∷ []) (at q (off k st))) (halt Outside)
 
 abbrev pub lay : ℕ → ℕ → List ℕ → Store → Result Move Ending → Way
-lay d p st σ (Ok m) = laid m.kind d m p st σ
+lay d p st σ (Ok m) = laid d m p st σ
 lay d p st σ (Err e) = halt e
 
 -- what an instruction does

@@ -1,18 +1,17 @@
 -- The machine with lent words and a height does what it does with its stack as a list.
-use Rattle.std.proofs.Common.{◌≡◌, ℕ, zero, suc, ◌+◌, ◌-◌, ◌≤◌, Bool, true, false, cond, ltb, leb, List, length, get_or, Ok, Err, Result, sym, refl, ap, ◌∙◌, arith, length-set}
+use Rattle.std.proofs.Common.{◌≡◌, ℕ, suc, ◌+◌, ◌-◌, ◌≤◌, Bool, true, false, cond, ltb, leb, List, length, get_or, Ok, Err, Result, sym, refl, ap, ◌∙◌, arith, length-set}
 use Rattle.std.proofs.lemmas.Bool.{ltb-true, leb-true}
 use Rattle.words.specs.declared.instr.Instr.{Instr}
 use Rattle.machine.specs.declared.ending.Ending.{Ending}
 use Rattle.machine.specs.declared.ending.Ending.TheVariants.{TooHigh, Outside, Missing, BadOperand}
 use Rattle.machine.specs.declared.vm.Move.{Move}
-use Rattle.machine.specs.declared.vm.Kind.{Kind}
-use Rattle.machine.specs.declared.vm.Kind.TheVariants.{Goes, Pushes, Writes}
-use Rattle.machine.specs.declared.op.Op.{Op}
-use Rattle.machine.specs.declared.op.Op.TheVariants.{Halt, Lit, Load, Stor, Ldx, Stx, Chk, Dup, Drop, Add, Sub, Mul, Div, Rem, Neg, Ladd, Lsub, Lmul, Ldiv, Lrem, Cmp, Lcmp, And, Or, Xor, Not, Fld, Dep, Shf, Br, Bre, Case, For, Next}
+use Rattle.machine.specs.declared.vm.Move.TheVariants.{On, Push, Write as Puts}
+use Rattle.words.specs.declared.op.Op.{Op}
+use Rattle.words.specs.declared.op.Op.TheVariants.{Halt, Lit, Load, Stor, Ldx, Stx, Chk, Dup, Drop, Add, Sub, Mul, Div, Rem, Neg, Ladd, Lsub, Lmul, Ldiv, Lrem, Cmp, Lcmp, And, Or, Xor, Not, Fld, Dep, Shf, Br, Bre, Case, For, Next}
 use Rattle.machine.specs.Table.{decoded, then, fine, wants, readied, act, row, moved}
-use Rattle.machine.specs.Machine.{State, made, made_by, goes}
+use Rattle.machine.specs.Machine.{State, made, goes}
 use Rattle.machine.specs.Stacks.{stack_of, hd, tl, off, stacked}
-use Rattle.machine.proofs.Views.{length_stack_of, top_is, next_is, push_stack_of}
+use Rattle.machine.proofs.Views.{length_stack_of, top_is, next_is, off_stack_of, push_stack_of}
 use Rattle.meaning.specs.Effects.{Write, leave}
 use Rattle.agreement.proofs.Moves.{Pos, at, Way, on, halt, laid, lay, acting, blank, move}
 
@@ -25,11 +24,6 @@ pub data Tells (s : State) : Way → Result State Ending → Type 0 where
       view t ≡ c → t.cells ≡ leave ws s.cells → t.vm.writes ≡ s.vm.writes + length ws → t.vm.ending ≡ s.vm.ending → length t.stack ≡ length s.stack → Tells s (on ws c) (Ok t)
   tells_halt : {e : Ending} → Tells s (halt e) (Err e)
 
-off_stack_of : (k h : ℕ) (st : List ℕ) → off k (stack_of h st) ≡ stack_of (h - k) st
-off_stack_of zero h st = let e : h ≡ h - 0 = omega arith in ap (λ (j : ℕ). stack_of j st) e
-off_stack_of (suc k) zero st = let e : zero - k ≡ zero - suc k = omega arith in off_stack_of k zero st ∙ ap (λ (j : ℕ). stack_of j st) e
-off_stack_of (suc k) (suc h) st = let e : h - k ≡ suc h - suc k = omega arith in off_stack_of k h st ∙ ap (λ (j : ℕ). stack_of j st) e
-
 length_off : (k h : ℕ) (st : List ℕ) → length (off k (stack_of h st)) ≡ h - k
 length_off k h st = ap length (off_stack_of k h st) ∙ length_stack_of (h - k) st
 
@@ -37,20 +31,20 @@ tells_cond : (s : State) (b : Bool) (v : Way) (t : State) (e : Ending) → (b �
 tells_cond s true v t e h = h refl
 tells_cond s false v t e h = tells_halt
 
-tells_made : (k : Kind) (d : ℕ) (m : Move) (s : State) → d ≤ length s.stack → Tells s (laid k d m s.vm.place (stacked s) s.cells) (made_by k d m s)
-tells_made Goes d m s l = tells_on (ap (at m.place) (sym (off_stack_of m.pops s.vm.height s.stack))) refl (omega arith) refl refl
-tells_made Pushes d m s l =
-    let h = s.vm.height - m.pops in
+tells_made : (d : ℕ) (m : Move) (s : State) → d ≤ length s.stack → Tells s (laid d m s.vm.place (stacked s) s.cells) (made d m s)
+tells_made d (On k q) s l = tells_on (ap (at q) (sym (off_stack_of k s.vm.height s.stack))) refl (omega arith) refl refl
+tells_made d (Push k w) s l =
+    let h = s.vm.height - k in
     let f : s.vm.place + 1 ≡ suc s.vm.place = omega arith in
-    rw (length_off m.pops s.vm.height s.stack)
+    rw (length_off k s.vm.height s.stack)
     (tells_cond s (ltb h d) _ _ TooHigh
-    (λ q. tells_on (rw (f, push_stack_of h m.word s.stack (omega (arith, ltb-true h d q)), off_stack_of m.pops s.vm.height s.stack)) refl (omega arith) refl (length-set s.stack h m.word)))
-tells_made Writes d m s l =
-    tells_cond s (ltb m.cell (length s.cells)) _ _ Outside
-    (λ q. tells_on (ap (at m.place) (sym (off_stack_of m.pops s.vm.height s.stack))) refl (omega arith) refl refl)
+    (λ e. tells_on (rw (f, push_stack_of h w s.stack (omega (arith, ltb-true h d e)), off_stack_of k s.vm.height s.stack)) refl (omega arith) refl (length-set s.stack h w)))
+tells_made d (Puts k c w q) s l =
+    tells_cond s (ltb c (length s.cells)) _ _ Outside
+    (λ e. tells_on (ap (at q) (sym (off_stack_of k s.vm.height s.stack))) refl (omega arith) refl refl)
 
 tells_then : (d : ℕ) (s : State) (r : Result Move Ending) → d ≤ length s.stack → Tells s (lay d s.vm.place (stacked s) s.cells r) (then r (λ m. made d m s))
-tells_then d s (Ok m) l = tells_made m.kind d m s l
+tells_then d s (Ok m) l = tells_made d m s l
 tells_then d s (Err e) l = tells_halt
 
 -- the words that an instruction looks at are the first two of the list; one that wants fewer looks at fewer
@@ -112,13 +106,8 @@ same_then (Err e) f g h = refl
 same_moved : (i : Instr) (p h : ℕ) (st σ : List ℕ) → moved i p h st σ ≡ acting i p (stack_of h st) σ
 same_moved i p h st σ = same_then (decoded i.number) _ _ (λ o. same_row o i.a i.b p h st σ)
 
-tells_fetched : (d : ℕ) (s : State) (b : Bool) (r : Result Move Ending) → d ≤ length s.stack →
-    Tells s (lay d s.vm.place (stacked s) s.cells (cond b r (Err Outside))) (cond b (then r (λ m. made d m s)) (Err Outside))
-tells_fetched d s true r l = tells_then d s r l
-tells_fetched d s false r l = tells_halt
-
 pub tells : (P : List Instr) (d : ℕ) (s : State) → d ≤ length s.stack → Tells s (move P d (view s) s.cells) (goes P d s)
 unfolding move goes
 tells P d s l =
     rw (sym (same_moved (get_or P s.vm.place blank) s.vm.place s.vm.height s.stack s.cells))
-    (tells_fetched d s (ltb s.vm.place (length P)) (moved (get_or P s.vm.place blank) s.vm.place s.vm.height s.stack s.cells) l)
+    (tells_then d s (cond (ltb s.vm.place (length P)) (moved (get_or P s.vm.place blank) s.vm.place s.vm.height s.stack s.cells) (Err Outside)) l)

@@ -1,27 +1,27 @@
 -- A step that does not end writes a cell exactly where its instruction is one of those that do.
-use Rattle.std.proofs.Common.{◌≡◌, ℕ, zero, suc, ◌+◌, ◌-◌, Bool, true, false, cond, ltb, leb, List, [], ◌∷◌, length, get_or, is_some, Some, None, Ok, Err, Option, Result, sym, refl, ap, ◌∙◌, subst, arith}
+use Rattle.std.proofs.Common.{◌≡◌, ℕ, zero, suc, ◌+◌, ◌-◌, Bool, true, false, cond, ltb, leb, List, [], ◌∷◌, length, get_or, slice_get, is_some, Some, None, Ok, Err, Option, Result, sym, refl, ap, ◌∙◌, subst, arith}
 use Rattle.arith.specs.Integers.{sum, subscript, chosen, turns}
 use Rattle.words.specs.declared.instr.Instr.{Instr}
+use Rattle.words.specs.Ops.{ops}
 use Rattle.typed.specs.Trees.{Body}
 use Rattle.typed.specs.Code.{program, depth}
 use Rattle.machine.specs.declared.ending.Ending.{Ending}
 use Rattle.machine.specs.declared.ending.Ending.TheVariants.{Outside, Missing, BadOperand}
 use Rattle.machine.specs.declared.vm.Move.{Move}
-use Rattle.machine.specs.declared.vm.Kind.{Kind}
-use Rattle.machine.specs.declared.vm.Kind.TheVariants.{Goes, Pushes, Writes}
-use Rattle.machine.specs.declared.op.Op.{Op}
-use Rattle.machine.specs.declared.op.Op.TheVariants.{Halt, Lit, Load, Stor, Ldx, Stx, Chk, Dup, Drop, Add, Sub, Mul, Div, Rem, Neg, Ladd, Lsub, Lmul, Ldiv, Lrem, Cmp, Lcmp, And, Or, Xor, Not, Fld, Dep, Shf, Br, Bre, Case, For, Next}
-use Rattle.machine.specs.Table.{ops, nth, decoded, then, fine, wants, stopped, cell_of, push, act, row, moved, On, Write as Puts}
-use Rattle.machine.specs.Machine.{State, made, made_by, goes, counted, settled, stepped, step, run}
+use Rattle.machine.specs.declared.vm.Move.TheVariants.{On, Push, Write as Puts}
+use Rattle.words.specs.declared.op.Op.{Op}
+use Rattle.words.specs.declared.op.Op.TheVariants.{Halt, Lit, Load, Stor, Ldx, Stx, Chk, Dup, Drop, Add, Sub, Mul, Div, Rem, Neg, Ladd, Lsub, Lmul, Ldiv, Lrem, Cmp, Lcmp, And, Or, Xor, Not, Fld, Dep, Shf, Br, Bre, Case, For, Next}
+use Rattle.machine.specs.Table.{known, decoded, then, fine, wants, stopped, cell_of, push, act, row, moved}
+use Rattle.machine.specs.Machine.{State, made, fetched, goes, counted, settled, stepped, step, run}
 use Rattle.meaning.specs.Effects.{Store}
 use Rattle.agreement.specs.Agreement.{after}
 use Rattle.agreement.specs.Sessions.{storing, writing, writes_in}
 use Rattle.agreement.proofs.Moves.{blank}
 
-abbrev writes : Kind → Bool
-writes Goes = false
-writes Pushes = false
-writes Writes = true
+abbrev writes : Move → Bool
+writes (On k q) = false
+writes (Push k w) = false
+writes (Puts k c w q) = true
 
 abbrev stores : Op → Bool
 stores Halt = false
@@ -61,7 +61,7 @@ stores Next = true
 
 -- a move writes or not, as b says
 abbrev Kinded : Bool → Result Move Ending → Type 0
-Kinded b (Ok m) = writes m.kind ≡ b
+Kinded b (Ok m) = writes m ≡ b
 Kinded b (Err e) = Unit {0}
 
 kinded_then : {X : Type 0} (b : Bool) (r : Result X Ending) (f : X → Result Move Ending) → ((x : X) → Kinded b (f x)) → Kinded b (then r f)
@@ -121,7 +121,7 @@ Marked n (o ∷ os) = (stores o ≡ storing n) × Marked (suc n) os
 marked : Marked 0 ops
 marked = (refl, (refl, (refl, (refl, (refl, (refl, (refl, (refl, (refl, (refl, (refl, (refl, (refl, (refl, (refl, (refl, (refl, (refl, (refl, (refl, (refl, (refl, (refl, (refl, (refl, (refl, (refl, (refl, (refl, (refl, (refl, (refl, (refl, (refl, tt))))))))))))))))))))))))))))))))))
 
-kinded_nth : (os : List Op) (n k j : ℕ) → Marked k os → k + n ≡ j → (f : Op → Result Move Ending) → ((o : Op) → Kinded (stores o) (f o)) → Kinded (storing j) (then (nth os n) f)
+kinded_nth : (os : List Op) (n k j : ℕ) → Marked k os → k + n ≡ j → (f : Op → Result Move Ending) → ((o : Op) → Kinded (stores o) (f o)) → Kinded (storing j) (then (known (slice_get os n)) f)
 kinded_nth [] n k j h e f g = tt
 kinded_nth (o ∷ os) zero k j h e f g =
     let q : k ≡ j = omega arith in
@@ -134,6 +134,15 @@ kinded_moved i p h st σ =
     kinded_nth ops i.number 0 i.number marked (omega arith) (λ o. row o i.a i.b p h st σ)
     (λ o. kinded_readied (stores o) (fine o i.a i.b) (leb (wants o i.a) h) _ (kinded_act o i.a i.b p (get_or st (h - 1) 0) (get_or st (h - 2) 0) σ))
 
+kinded_cond : (b f : Bool) (r : Result Move Ending) → Kinded b r → Kinded b (cond f r (Err Outside))
+kinded_cond b true r h = h
+kinded_cond b false r h = tt
+
+kinded_fetched : (P : List Instr) (s : State) → Kinded (storing (get_or P s.vm.place blank).number) (fetched P s)
+kinded_fetched P s =
+    let i = get_or P s.vm.place blank in
+    kinded_cond (storing i.number) (ltb s.vm.place (length P)) (moved i s.vm.place s.vm.height s.stack s.cells) (kinded_moved i s.vm.place s.vm.height s.stack s.cells)
+
 -- the count of writes goes up by one where b says so
 abbrev Counts : Bool → State → Result State Ending → Type 0
 Counts b s (Ok t) = (t.vm.writes ≡ s.vm.writes + cond b 1 0) × (t.vm.ending ≡ s.vm.ending)
@@ -143,25 +152,18 @@ counts_cond : (b : Bool) (s t : State) (c : Bool) (e : Ending) → Counts b s (O
 counts_cond b s t true e h = h
 counts_cond b s t false e h = tt
 
-counts_made : (k : Kind) (d : ℕ) (m : Move) (s : State) → Counts (writes k) s (made_by k d m s)
-counts_made Goes d m s = (omega arith, refl)
-counts_made Pushes d m s = counts_cond false s _ (ltb (s.vm.height - m.pops) d) _ (omega arith, refl)
-counts_made Writes d m s = counts_cond true s _ (ltb m.cell (length s.cells)) _ (refl, refl)
+counts_made : (d : ℕ) (m : Move) (s : State) → Counts (writes m) s (made d m s)
+counts_made d (On k q) s = (omega arith, refl)
+counts_made d (Push k w) s = counts_cond false s _ (ltb (s.vm.height - k) d) _ (omega arith, refl)
+counts_made d (Puts k c w q) s = counts_cond true s _ (ltb c (length s.cells)) _ (refl, refl)
 
 counts_then : (b : Bool) (d : ℕ) (s : State) (r : Result Move Ending) → Kinded b r → Counts b s (then r (λ m. made d m s))
-counts_then b d s (Ok m) h = subst (λ (c : Bool). Counts c s (made d m s)) h (counts_made m.kind d m s)
+counts_then b d s (Ok m) h = subst (λ (c : Bool). Counts c s (made d m s)) h (counts_made d m s)
 counts_then b d s (Err e) h = tt
-
-counts_fetched : (b f : Bool) (s : State) (r : Result State Ending) → Counts b s r → Counts b s (cond f r (Err Outside))
-counts_fetched b true s r h = h
-counts_fetched b false s r h = tt
 
 counts_goes : (P : List Instr) (d : ℕ) (s : State) → Counts (storing (get_or P s.vm.place blank).number) s (goes P d s)
 unfolding goes
-counts_goes P d s =
-    let i = get_or P s.vm.place blank in
-    counts_fetched (storing i.number) (ltb s.vm.place (length P)) s (then (moved i s.vm.place s.vm.height s.stack s.cells) (λ m. made d m s))
-    (counts_then (storing i.number) d s (moved i s.vm.place s.vm.height s.stack s.cells) (kinded_moved i s.vm.place s.vm.height s.stack s.cells))
+counts_goes P d s = counts_then (storing (get_or P s.vm.place blank).number) d s (fetched P s) (kinded_fetched P s)
 
 counts_settled : (b : Bool) (s : State) (r : Result State Ending) → s.vm.ending ≡ None → Counts b s r → (settled r s).vm.writes ≡ s.vm.writes + cond (cond (is_some (settled r s).vm.ending) false b) 1 0
 counts_settled b s (Ok t) q h = rw (h.1, q) h.0

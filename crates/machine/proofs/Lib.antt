@@ -1,5 +1,4 @@
 mod Operands
-mod Past
 mod Pops
 pub mod Runs
 pub mod Steps

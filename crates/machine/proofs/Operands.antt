@@ -2,7 +2,8 @@
 use Rattle.std.proofs.Common.{◌≡◌, ℕ, true, ◌&&◌, eqb, leb, refl}
 use Rattle.std.proofs.lemmas.Bool.{and_parts, eqb-true}
 use Rattle.words.specs.Rows.{operands_of}
-use Rattle.machine.specs.Table.{ops, plain, single}
+use Rattle.words.specs.Ops.{ops}
+use Rattle.machine.specs.Table.{plain, single}
 use Rattle.machine.specs.Laws.{Named}
 
 none : (a b : ℕ) → plain a b ≡ true → (a ≡ 0) × (b ≡ 0)

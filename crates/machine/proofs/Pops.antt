@@ -1,15 +1,16 @@
 -- No more words are popped than have to be there.
-use Rattle.std.proofs.Common.{◌≡◌, ℕ, ◌+◌, ◌-◌, ◌≤◌, Bool, true, false, cond, leb, List, get_or, Ok, Err, Result, refl, ap, arith}
+use Rattle.std.proofs.Common.{◌≡◌, ℕ, ◌+◌, ◌-◌, ◌≤◌, Bool, true, false, cond, leb, ltb, List, length, get_or, Ok, Err, Result, refl, ap, arith}
 use Rattle.std.proofs.lemmas.Bool.{leb-true}
 use Rattle.words.specs.declared.instr.Instr.{Instr}
 use Rattle.machine.specs.declared.ending.Ending.{Ending}
-use Rattle.machine.specs.declared.ending.Ending.TheVariants.{Missing, BadOperand}
+use Rattle.machine.specs.declared.ending.Ending.TheVariants.{Missing, BadOperand, Outside}
 use Rattle.machine.specs.declared.vm.Move.{Move}
-use Rattle.machine.specs.declared.op.Op.{Op}
-use Rattle.machine.specs.declared.op.Op.TheVariants.{Halt, Lit, Load, Stor, Ldx, Stx, Chk, Dup, Drop, Add, Sub, Mul, Div, Rem, Neg, Ladd, Lsub, Lmul, Ldiv, Lrem, Cmp, Lcmp, And, Or, Xor, Not, Fld, Dep, Shf, Br, Bre, Case, For, Next}
+use Rattle.machine.specs.declared.vm.Move.TheVariants.{On, Write}
+use Rattle.words.specs.declared.op.Op.{Op}
+use Rattle.words.specs.declared.op.Op.TheVariants.{Halt, Lit, Load, Stor, Ldx, Stx, Chk, Dup, Drop, Add, Sub, Mul, Div, Rem, Neg, Ladd, Lsub, Lmul, Ldiv, Lrem, Cmp, Lcmp, And, Or, Xor, Not, Fld, Dep, Shf, Br, Bre, Case, For, Next}
 use Rattle.arith.specs.Integers.{sum, subscript, chosen, turns}
-use Rattle.machine.specs.Table.{decoded, then, fine, wants, stopped, cell_of, push, act, row, moved, On, Write}
-use Rattle.machine.specs.Machine.{pops}
+use Rattle.machine.specs.Table.{decoded, then, fine, wants, stopped, cell_of, push, act, row, moved}
+use Rattle.machine.specs.Machine.{State, fetched, pops}
 
 abbrev pops_r : Result Move Ending → ℕ
 pops_r (Ok m) = pops m
@@ -70,7 +71,10 @@ pops_readied true true h n r e k = omega (arith, e refl)
 pops_row : (o : Op) (a b p h : ℕ) (st σ : List ℕ) → pops_r (row o a b p h st σ) ≤ h
 pops_row o a b p h st σ = pops_readied (fine o a b) (leb (wants o a) h) h (wants o a) _ (leb-true (wants o a) h) (pops_act o a b p (get_or st (h - 1) 0) (get_or st (h - 2) 0) σ)
 
-pub pops_moved : (i : Instr) (p h : ℕ) (st σ : List ℕ) (m : Move) → Ok m ≡ moved i p h st σ → pops m ≤ h
-pops_moved i p h st σ m e =
-    let k = pops_then (decoded i.number) (λ o. row o i.a i.b p h st σ) h (λ o. pops_row o i.a i.b p h st σ) in
-    omega (arith, ap pops_r e, k)
+pops_fetched : (P : List Instr) (s : State) (b : Bool) (i : Instr) → pops_r (cond b (moved i s.vm.place s.vm.height s.stack s.cells) (Err Outside)) ≤ s.vm.height
+pops_fetched P s true i = pops_then (decoded i.number) (λ o. row o i.a i.b s.vm.place s.vm.height s.stack s.cells) s.vm.height (λ o. pops_row o i.a i.b s.vm.place s.vm.height s.stack s.cells)
+pops_fetched P s false i = omega arith
+
+-- what is fetched pops no more words than are stacked
+pub pops_held : (P : List Instr) (s : State) (m : Move) → Ok m ≡ fetched P s → pops m ≤ s.vm.height
+pops_held P s m e = let k = pops_fetched P s (ltb s.vm.place (length P)) (get_or P s.vm.place record { number = 0; a = 0; b = 0 }) in omega (arith, ap pops_r e, k)

@@ -1,14 +1,13 @@
 -- What one step keeps, whatever the instruction.
-use Rattle.std.proofs.Common.{◌≡◌, ℕ, ◌+◌, ◌-◌, ◌<◌, ◌≤◌, Bool, true, false, cond, ltb, List, length, get_or, is_some, Some, None, Ok, Err, Option, Result, sym, refl, ap, ◌∙◌, inl, inr, arith}
-use Rattle.std.proofs.lemmas.Bool.{ltb-true, lt-ltb, le-ltb, cond-true, cond-false, true≢false, false≢true}
+use Rattle.std.proofs.Common.{◌≡◌, ℕ, ◌+◌, ◌-◌, ◌≤◌, Bool, true, false, cond, ltb, List, length, is_some, Some, None, Ok, Err, Option, Result, sym, refl, ap, ◌∙◌, inl, inr, arith}
+use Rattle.std.proofs.lemmas.Bool.{ltb-true, le-ltb, cond-false, true≢false, false≢true}
 use Rattle.words.specs.declared.instr.Instr.{Instr}
 use Rattle.machine.specs.declared.ending.Ending.{Ending}
 use Rattle.machine.specs.declared.ending.Ending.TheVariants.{TooHigh, Outside}
 use Rattle.machine.specs.declared.vm.Move.{Move}
-use Rattle.machine.specs.declared.vm.Kind.{Kind}
-use Rattle.machine.specs.declared.vm.Kind.TheVariants.{Goes, Pushes, Writes}
-use Rattle.machine.specs.Table.{then, moved}
-use Rattle.machine.specs.Machine.{State, made, made_by, goes, counted, ended, settled, stepped, step}
+use Rattle.machine.specs.declared.vm.Move.TheVariants.{On, Push, Write}
+use Rattle.machine.specs.Table.{then}
+use Rattle.machine.specs.Machine.{State, made, fetched, goes, counted, ended, settled, stepped, step}
 use Rattle.machine.specs.Laws.{Stays, Wrote, Pushed}
 
 -- a move that is made has Q
@@ -24,15 +23,9 @@ has_then : (Q : State → Type 0) (r : Result Move Ending) (f : Move → Result 
 has_then Q (Ok m) f h = h m
 has_then Q (Err e) f h = tt
 
-has_fetch : (Q : State → Type 0) (b : Bool) (r : Result State Ending) → Has Q r → Has Q (cond b r (Err Outside))
-has_fetch Q true r k = k
-has_fetch Q false r k = tt
-
 has_goes : (Q : State → Type 0) (P : List Instr) (d : ℕ) (s : State) → ((m : Move) → Has Q (made d m s)) → Has Q (goes P d s)
 unfolding goes
-has_goes Q P d s h =
-    has_fetch Q (ltb s.vm.place (length P)) (then (moved (get_or P s.vm.place record { number = 0; a = 0; b = 0 }) s.vm.place s.vm.height s.stack s.cells) (λ m. made d m s))
-    (has_then Q (moved (get_or P s.vm.place record { number = 0; a = 0; b = 0 }) s.vm.place s.vm.height s.stack s.cells) (λ m. made d m s) h)
+has_goes Q P d s h = has_then Q (fetched P s) (λ m. made d m s) h
 
 -- what a move does
 record Did (d : ℕ) (s t : State) : Type 0 where
@@ -42,21 +35,21 @@ record Did (d : ℕ) (s t : State) : Type 0 where
   wrote : Wrote s t
   pushed : Pushed d s t
 
-did_by : (k : Kind) (d : ℕ) (m : Move) (s : State) → Has (Did d s) (made_by k d m s)
-did_by Goes d m s = record { steps = refl; ending = refl; low = λ h. omega arith; wrote = inl (refl, refl); pushed = inl refl }
-did_by Pushes d m s =
-    has_cond (Did d s) _ (ltb (s.vm.height - m.pops) d) TooHigh
+did_by : (d : ℕ) (m : Move) (s : State) → Has (Did d s) (made d m s)
+did_by d (On k q) s = record { steps = refl; ending = refl; low = λ h. omega arith; wrote = inl (refl, refl); pushed = inl refl }
+did_by d (Push k w) s =
+    has_cond (Did d s) _ (ltb (s.vm.height - k) d) TooHigh
     (λ e.
-    let l = ltb-true (s.vm.height - m.pops) d e in
-    record { steps = refl; ending = refl; low = λ h. omega arith; wrote = inl (refl, refl); pushed = inr (s.vm.height - m.pops, m.word, l, refl, refl) })
-did_by Writes d m s =
-    has_cond (Did d s) _ (ltb m.cell (length s.cells)) Outside
+    let l = ltb-true (s.vm.height - k) d e in
+    record { steps = refl; ending = refl; low = λ h. omega arith; wrote = inl (refl, refl); pushed = inr (s.vm.height - k, w, l, refl, refl) })
+did_by d (Write k c w q) s =
+    has_cond (Did d s) _ (ltb c (length s.cells)) Outside
     (λ e.
-    let l = ltb-true m.cell (length s.cells) e in
-    record { steps = refl; ending = refl; low = λ h. omega arith; wrote = inr (m.cell, m.word, l, refl, refl); pushed = inl refl })
+    let l = ltb-true c (length s.cells) e in
+    record { steps = refl; ending = refl; low = λ h. omega arith; wrote = inr (c, w, l, refl, refl); pushed = inl refl })
 
 did_goes : (P : List Instr) (d : ℕ) (s : State) → Has (Did d s) (goes P d s)
-did_goes P d s = has_goes (Did d s) P d s (λ m. did_by m.kind d m s)
+did_goes P d s = has_goes (Did d s) P d s (λ m. did_by d m s)
 
 -- a step moves or ends
 by_settled : (Q : State → Type 0) (s : State) (r : Result State Ending) → Has Q r → ((e : Ending) → Q (ended e s)) → Q (settled r s)
@@ -105,14 +98,13 @@ ends_step P d s e n =
 
 -- what the code finds is what is defined
 
-pub goes_past : (P : List Instr) (d : ℕ) (s : State) → length P ≤ s.vm.place → goes P d s ≡ Err Outside
+pub goes_by : (P : List Instr) (d : ℕ) (s : State) (r : Result Move Ending) → r ≡ fetched P s → goes P d s ≡ then r (λ m. made d m s)
 unfolding goes
-goes_past P d s h = cond-false (ltb s.vm.place (length P)) _ _ (le-ltb _ _ h)
+goes_by P d s r e = ap (λ (q : Result Move Ending). then q (λ m. made d m s)) (sym e)
 
-pub goes_at : (P : List Instr) (d : ℕ) (s : State) (r : Result Move Ending) → s.vm.place < length P →
-    r ≡ moved (get_or P s.vm.place record { number = 0; a = 0; b = 0 }) s.vm.place s.vm.height s.stack s.cells → goes P d s ≡ then r (λ m. made d m s)
+goes_past : (P : List Instr) (d : ℕ) (s : State) → length P ≤ s.vm.place → goes P d s ≡ Err Outside
 unfolding goes
-goes_at P d s r h e = cond-true (ltb s.vm.place (length P)) _ _ (lt-ltb _ _ h) ∙ ap (λ (q : Result Move Ending). then q (λ m. made d m s)) (sym e)
+goes_past P d s h = ap (λ (q : Result Move Ending). then q (λ m. made d m s)) (cond-false (ltb s.vm.place (length P)) _ _ (le-ltb _ _ h))
 
 pub step_ok : (P : List Instr) (d : ℕ) (s t : State) → s.vm.ending ≡ None → goes P d (counted s) ≡ Ok t → t ≡ step P d s
 unfolding step

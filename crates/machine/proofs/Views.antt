@@ -3,9 +3,8 @@ use Rattle.std.proofs.Common.{◌≡◌, ℕ, zero, suc, ◌+◌, ◌-◌, ◌<�
 use Rattle.std.proofs.lemmas.Bool.{ltb-true}
 use Rattle.machine.specs.declared.ending.Ending.{Ending}
 use Rattle.machine.specs.declared.vm.Move.{Move}
-use Rattle.machine.specs.declared.vm.Kind.{Kind}
-use Rattle.machine.specs.declared.vm.Kind.TheVariants.{Goes, Pushes, Writes}
-use Rattle.machine.specs.Machine.{State, made, made_by}
+use Rattle.machine.specs.declared.vm.Move.TheVariants.{On, Push, Write}
+use Rattle.machine.specs.Machine.{State, made, pops}
 use Rattle.machine.specs.Stacks.{stack_of, hd, tl, off, Shows}
 
 pub length_stack_of : (h : ℕ) (st : List ℕ) → length (stack_of h st) ≡ h
@@ -22,10 +21,10 @@ next_is zero st l = absurd (omega arith)
 next_is (suc zero) st l = absurd (omega arith)
 next_is (suc (suc h)) st l = let e : suc (suc h) - 2 ≡ h = omega arith in ap (λ (k : ℕ). get_or st k 0) e
 
-pub off_stack_of : (k h : ℕ) (st : List ℕ) → k ≤ h → off k (stack_of h st) ≡ stack_of (h - k) st
-off_stack_of zero h st l = let e : h ≡ h - 0 = omega arith in ap (λ (j : ℕ). stack_of j st) e
-off_stack_of (suc k) zero st l = absurd (omega arith)
-off_stack_of (suc k) (suc h) st l = let e : h - k ≡ suc h - suc k = omega arith in off_stack_of k h st (omega arith) ∙ ap (λ (j : ℕ). stack_of j st) e
+pub off_stack_of : (k h : ℕ) (st : List ℕ) → off k (stack_of h st) ≡ stack_of (h - k) st
+off_stack_of zero h st = let e : h ≡ h - 0 = omega arith in ap (λ (j : ℕ). stack_of j st) e
+off_stack_of (suc k) zero st = let e : zero - k ≡ zero - suc k = omega arith in off_stack_of k zero st ∙ ap (λ (j : ℕ). stack_of j st) e
+off_stack_of (suc k) (suc h) st = let e : h - k ≡ suc h - suc k = omega arith in off_stack_of k h st ∙ ap (λ (j : ℕ). stack_of j st) e
 
 -- what lies at h and above does not show
 pub set_above : (h j w : ℕ) (st : List ℕ) → h ≤ j → stack_of h (set st j w) ≡ stack_of h st
@@ -41,16 +40,13 @@ push_stack_of h w st l =
     let e : get_or (set st h w) h 0 ≡ w = rw get_or-set_same refl in
     ap (λ (j : ℕ). stack_of j (set st h w)) f ∙ rw (e, set_above h h w st (omega arith))
 
-shows_cond : (k : Kind) (m : Move) (s t : State) (b : Bool) (e : Ending) → (b ≡ true → Shows k m s (Ok t)) → Shows k m s (cond b (Ok t) (Err e))
-shows_cond k m s t true e h = h refl
-shows_cond k m s t false e h = tt
+shows_cond : (m : Move) (s t : State) (b : Bool) (e : Ending) → (b ≡ true → Shows m s (Ok t)) → Shows m s (cond b (Ok t) (Err e))
+shows_cond m s t true e h = h refl
+shows_cond m s t false e h = tt
 
-shows_by : (k : Kind) (d : ℕ) (m : Move) (s : State) → m.pops ≤ s.vm.height → d ≤ length s.stack → Shows k m s (made_by k d m s)
-shows_by Goes d m s p l = sym (off_stack_of m.pops s.vm.height s.stack p)
-shows_by Pushes d m s p l =
-    shows_cond Pushes m s _ (ltb (s.vm.height - m.pops) d) _
-    (λ e. push_stack_of (s.vm.height - m.pops) m.word s.stack (omega (arith, ltb-true (s.vm.height - m.pops) d e)) ∙ ap (λ (r : List ℕ). m.word ∷ r) (sym (off_stack_of m.pops s.vm.height s.stack p)))
-shows_by Writes d m s p l = shows_cond Writes m s _ (ltb m.cell (length s.cells)) _ (λ e. sym (off_stack_of m.pops s.vm.height s.stack p))
-
-pub shows : (d : ℕ) (m : Move) (s : State) → m.pops ≤ s.vm.height → d ≤ length s.stack → Shows m.kind m s (made d m s)
-shows d m s p l = shows_by m.kind d m s p l
+pub shows : (d : ℕ) (m : Move) (s : State) → pops m ≤ s.vm.height → d ≤ length s.stack → Shows m s (made d m s)
+shows d (On k q) s p l = sym (off_stack_of k s.vm.height s.stack)
+shows d (Push k w) s p l =
+    shows_cond (Push k w) s _ (ltb (s.vm.height - k) d) _
+    (λ e. push_stack_of (s.vm.height - k) w s.stack (omega (arith, ltb-true (s.vm.height - k) d e)) ∙ ap (λ (r : List ℕ). w ∷ r) (sym (off_stack_of k s.vm.height s.stack)))
+shows d (Write k c w q) s p l = shows_cond (Write k c w q) s _ (ltb c (length s.cells)) _ (λ e. sym (off_stack_of k s.vm.height s.stack))

@@ -1,13 +1,14 @@
 -- What a step does, whatever the instruction.
 use Rattle.std.specs.Prelude.{◌≡◌, ℕ, zero, suc, ◌+◌, ◌-◌, ◌<◌, ◌≤◌, true, ◌⊎◌, List, [], ◌∷◌, length, Some, None, Option, slice_index, slice_set}
+use Rattle.words.specs.Ops.{ops}
 use Rattle.words.specs.Rows.{operands_of}
 use Rattle.words.specs.declared.instr.Instr.{Instr}
+use Rattle.words.specs.declared.op.Op.{Op}
 use Rattle.machine.specs.declared.ending.Ending.{Ending}
 use Rattle.machine.specs.declared.ending.Ending.TheVariants.{Outside}
-use Rattle.machine.specs.declared.op.Op.{Op}
 use Rattle.machine.specs.declared.vm.Move.{Move}
-use Rattle.machine.specs.Table.{ops, fine}
-use Rattle.machine.specs.Machine.{State, made, step, run}
+use Rattle.machine.specs.Table.{fine}
+use Rattle.machine.specs.Machine.{State, made, pops, step, run}
 use Rattle.machine.specs.Stacks.{hd, tl, stacked, Shows}
 
 -- only the ending and the count of steps differ
@@ -61,4 +62,4 @@ pub record Lawful : Type 0 where
   pub top : (s : State) → 1 ≤ s.vm.height → slice_index s.stack (s.vm.height - 1) ≡ hd (stacked s)
   pub below : (s : State) → 2 ≤ s.vm.height → slice_index s.stack (s.vm.height - 2) ≡ hd (tl (stacked s))
   -- on the stack as a list, pops take from the front and a push adds there
-  pub shows : (d : ℕ) (m : Move) (s : State) → m.pops ≤ s.vm.height → d ≤ length s.stack → Shows m.kind m s (made d m s)
+  pub shows : (d : ℕ) (m : Move) (s : State) → pops m ≤ s.vm.height → d ≤ length s.stack → Shows m s (made d m s)

@@ -3,3 +3,4 @@ pub mod Table
 pub mod Machine
 pub mod Stacks
 pub mod Laws
+pub mod Lent

@@ -4,8 +4,7 @@ use Rattle.words.specs.declared.instr.Instr.{Instr}
 use Rattle.machine.specs.declared.ending.Ending.{Ending}
 use Rattle.machine.specs.declared.ending.Ending.TheVariants.{TooHigh, Outside}
 use Rattle.machine.specs.declared.vm.Move.{Move}
-use Rattle.machine.specs.declared.vm.Kind.{Kind}
-use Rattle.machine.specs.declared.vm.Kind.TheVariants.{Goes, Pushes, Writes}
+use Rattle.machine.specs.declared.vm.Move.TheVariants.{On, Push, Write}
 use Rattle.machine.specs.declared.vm.Vm.{Vm}
 use Rattle.machine.specs.Table.{moved, then}
 
@@ -23,22 +22,19 @@ abbrev pub at : Vm → ℕ → ℕ → ℕ → Vm
 at v p h w = record { place = p; height = h; steps = v.steps; writes = w; ending = v.ending }
 
 -- A move is made. d is the depth: a push has to stay within it, and a cell that is written has to be there.
-abbrev pub made_by : Kind → ℕ → Move → State → Result State Ending
-made_by Goes d m s = Ok (state (at s.vm m.place (s.vm.height - m.pops) s.vm.writes) s.stack s.cells)
-made_by Pushes d m s =
-    cond (nat_lt (s.vm.height - m.pops) d) (Ok (state (at s.vm (s.vm.place + 1) (s.vm.height - m.pops + 1) s.vm.writes) (slice_set s.stack (s.vm.height - m.pops) m.word) s.cells)) (Err TooHigh)
-made_by Writes d m s =
-    cond (nat_lt m.cell (length s.cells)) (Ok (state (at s.vm m.place (s.vm.height - m.pops) (s.vm.writes + 1)) s.stack (slice_set s.cells m.cell m.word))) (Err Outside)
-
 abbrev pub made : ℕ → Move → State → Result State Ending
-made d m s = made_by m.kind d m s
+made d (On k q) s = Ok (state (at s.vm q (s.vm.height - k) s.vm.writes) s.stack s.cells)
+made d (Push k w) s =
+    cond (nat_lt (s.vm.height - k) d) (Ok (state (at s.vm (s.vm.place + 1) (s.vm.height - k + 1) s.vm.writes) (slice_set s.stack (s.vm.height - k) w) s.cells)) (Err TooHigh)
+made d (Write k c w q) s = cond (nat_lt c (length s.cells)) (Ok (state (at s.vm q (s.vm.height - k) (s.vm.writes + 1)) s.stack (slice_set s.cells c w))) (Err Outside)
 
--- what the step does that is not its count: the move of the instruction, or an ending
+-- the move of the instruction at the place; past the code there is none
+abbrev pub fetched : List Instr → State → Result Move Ending
+fetched P s = cond (nat_lt s.vm.place (length P)) (moved (slice_index_or P s.vm.place record { number = 0; a = 0; b = 0 }) s.vm.place s.vm.height s.stack s.cells) (Err Outside)
+
+-- what the step does that is not its count: that move, or an ending
 unfoldable pub goes : List Instr → ℕ → State → Result State Ending
-goes P d s =
-    cond (nat_lt s.vm.place (length P))
-    (then (moved (slice_index_or P s.vm.place record { number = 0; a = 0; b = 0 }) s.vm.place s.vm.height s.stack s.cells) (λ m. made d m s))
-    (Err Outside)
+goes P d s = then (fetched P s) (λ m. made d m s)
 
 -- one more step is counted
 abbrev pub counted : State → State
@@ -64,22 +60,25 @@ unfoldable pub run : List Instr → ℕ → ℕ → State → State
 run P d zero s = s
 run P d (suc n) s = step P d (run P d n s)
 
--- whether a step can be made: the stack has room for the depth and is not above it, the code is not too long, and
+-- whether n steps can be made: the code is not too long, the stack has room for the depth and is not above it, and
 -- the counts are in order
-abbrev pub able : List Instr → ℕ → State → Bool
-able P d s = nat_le (length P) 16383 && (nat_le d (length s.stack) && (nat_le s.vm.height d && (nat_lt s.vm.steps 4000000000 && nat_le s.vm.writes s.vm.steps)))
-
--- whether n steps can be made
 abbrev pub able_for : ℕ → List Instr → ℕ → State → Bool
 able_for n P d s = nat_le (length P) 16383 && (nat_le d (length s.stack) && (nat_le s.vm.height d && (nat_le (s.vm.steps + n) 4000000000 && nat_le s.vm.writes s.vm.steps)))
+
+-- whether one can
+abbrev pub able : List Instr → ℕ → State → Bool
+able P d s = able_for 1 P d s
 
 -- a step answers the registers after it; where none can be made, nothing changes
 abbrev pub Steps : Option Vm → Bool → State → List ℕ → List ℕ → State → Type 0
 Steps None can s st σ t = (can ≡ false) × (st ≡ s.stack) × (σ ≡ s.cells)
 Steps (Some v) can s st σ t = (can ≡ true) × (state v st σ ≡ t)
 
+-- the words that a move pops
 abbrev pub pops : Move → ℕ
-pops m = m.pops
+pops (On k q) = k
+pops (Push k w) = k
+pops (Write k c w q) = k
 
 -- r, with s before and t after, is what o says
 abbrev pub Makes : {U : Type 0} → Result U Ending → State → State → Result State Ending → Type 0

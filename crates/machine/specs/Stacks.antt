@@ -2,8 +2,7 @@
 use Rattle.std.specs.Prelude.{◌≡◌, ℕ, zero, suc, List, [], ◌∷◌, Ok, Err, Result, slice_index}
 use Rattle.machine.specs.declared.ending.Ending.{Ending}
 use Rattle.machine.specs.declared.vm.Move.{Move}
-use Rattle.machine.specs.declared.vm.Kind.{Kind}
-use Rattle.machine.specs.declared.vm.Kind.TheVariants.{Goes, Pushes, Writes}
+use Rattle.machine.specs.declared.vm.Move.TheVariants.{On, Push, Write}
 use Rattle.machine.specs.Machine.{State}
 
 -- the lowest h words, the top first
@@ -25,19 +24,16 @@ off zero st = st
 off (suc k) st = off k (tl st)
 
 -- the stack after a move
-abbrev pub after_by : Kind → Move → List ℕ → List ℕ
-after_by Goes m st = off m.pops st
-after_by Pushes m st = m.word ∷ off m.pops st
-after_by Writes m st = off m.pops st
-
 abbrev pub after : Move → List ℕ → List ℕ
-after m st = after_by m.kind m st
+after (On k q) st = off k st
+after (Push k w) st = w ∷ off k st
+after (Write k c w q) st = off k st
 
 -- the stack of a machine
 abbrev pub stacked : State → List ℕ
 stacked s = stack_of s.vm.height s.stack
 
 -- a move that is made on the lent words is that move on the list
-abbrev pub Shows : Kind → Move → State → Result State Ending → Type 0
-Shows k m s (Ok t) = stacked t ≡ after_by k m (stacked s)
-Shows k m s (Err e) = Unit {0}
+abbrev pub Shows : Move → State → Result State Ending → Type 0
+Shows m s (Ok t) = stacked t ≡ after m (stacked s)
+Shows m s (Err e) = Unit {0}

@@ -1,5 +1,5 @@
 -- The instructions, row by row. Operations on words are those of `arith`.
-use Rattle.std.specs.Prelude.{ℕ, zero, suc, ◌+◌, ◌-◌, Bool, true, cond, ◌&&◌, List, [], ◌∷◌, length, Ok, Err, Result, ◌==◌, bit_and, bit_or, bit_xor, nat_le, nat_lt, slice_index}
+use Rattle.std.specs.Prelude.{ℕ, ◌+◌, ◌-◌, Bool, true, cond, ◌&&◌, List, length, Some, None, Ok, Err, Option, Result, ◌==◌, bit_and, bit_or, bit_xor, nat_le, nat_lt, slice_get, slice_index}
 use Rattle.arith.specs.declared.stop.Stop.{Stop}
 use Rattle.arith.specs.Integers.{sum, difference, product, quotient, remainder, negation, subscript, chosen, turns}
 use Rattle.arith.specs.Logicals.{lsum, ldifference, lproduct, lquotient, lremainder, odd}
@@ -8,37 +8,22 @@ use Rattle.arith.specs.Bits.{complement}
 use Rattle.arith.specs.Fields.{is_field, field, deposited}
 use Rattle.arith.specs.Shifts.{is_shift, kind_of, shifted}
 use Rattle.words.specs.declared.instr.Instr.{Instr}
+use Rattle.words.specs.Ops.{ops}
 use Rattle.machine.specs.declared.ending.Ending.{Ending}
 use Rattle.machine.specs.declared.ending.Ending.TheVariants.{Halted, Stopped, Missing, BadOperand, Outside}
 use Rattle.machine.specs.declared.vm.Move.{Move}
-use Rattle.machine.specs.declared.vm.Kind.TheVariants.{Goes, Pushes, Writes}
-use Rattle.machine.specs.declared.op.Op.{Op}
-use Rattle.machine.specs.declared.op.Op.TheVariants.{Halt, Lit, Load, Stor, Ldx, Stx, Chk, Dup, Drop, Add, Sub, Mul, Div, Rem, Neg, Ladd, Lsub, Lmul, Ldiv, Lrem, Cmp, Lcmp, And, Or, Xor, Not, Fld, Dep, Shf, Br, Bre, Case, For, Next}
+use Rattle.machine.specs.declared.vm.Move.TheVariants.{On, Push, Write}
+use Rattle.words.specs.declared.op.Op.{Op}
+use Rattle.words.specs.declared.op.Op.TheVariants.{Halt, Lit, Load, Stor, Ldx, Stx, Chk, Dup, Drop, Add, Sub, Mul, Div, Rem, Neg, Ladd, Lsub, Lmul, Ldiv, Lrem, Cmp, Lcmp, And, Or, Xor, Not, Fld, Dep, Shf, Br, Bre, Case, For, Next}
 
--- the instructions in the order of their numbers
-abbrev pub ops : List Op
-ops = Halt ∷ Lit ∷ Load ∷ Stor ∷ Ldx ∷ Stx ∷ Chk ∷ Dup ∷ Drop ∷ Add ∷ Sub ∷ Mul ∷ Div ∷ Rem ∷ Neg ∷ Ladd ∷ Lsub ∷ Lmul ∷ Ldiv ∷ Lrem ∷ Cmp ∷ Lcmp ∷ And ∷ Or ∷ Xor ∷ Not ∷ Fld ∷ Dep ∷ Shf ∷ Br ∷ Bre ∷ Case ∷ For ∷ Next ∷ []
+-- the instruction of a number, if there is one
+abbrev pub known : Option Op → Result Op Ending
+known (Some o) = Ok o
+known None = Err BadOperand
 
--- the number n of the list; over 33 there is none
-abbrev pub nth : List Op → ℕ → Result Op Ending
-nth [] n = Err BadOperand
-nth (o ∷ os) zero = Ok o
-nth (o ∷ os) (suc n) = nth os n
-
+-- by its place in the list of instructions; over 33 there is none
 unfoldable pub decoded : ℕ → Result Op Ending
-decoded n = nth ops n
-
--- a move: k words popped, and on to q
-abbrev pub On : ℕ → ℕ → Move
-On k q = record { kind = Goes; pops = k; word = 0; cell = 0; place = q }
-
--- k words popped, then w pushed
-abbrev pub Push : ℕ → ℕ → Move
-Push k w = record { kind = Pushes; pops = k; word = w; cell = 0; place = 0 }
-
--- k words popped, w into the cell c, and on to q
-abbrev pub Write : ℕ → ℕ → ℕ → ℕ → Move
-Write k c w q = record { kind = Writes; pops = k; word = w; cell = c; place = q }
+decoded n = known (slice_get ops n)
 
 -- go on with an answer; an ending stands
 abbrev pub then : {X Y : Type 0} → Result X Ending → (X → Result Y Ending) → Result Y Ending

@@ -1,16 +1,79 @@
 // What one instruction does, worked out without changing anything.
-ghost use Rattle.std.specs.Prelude.{◌≡◌, ◌<◌, ◌≤◌, length};
-ghost use Rattle.machine.specs.Table.{moved};
+ghost use Rattle.std.specs.Prelude.{◌≡◌, ◌-◌, ◌<◌, Ok, Err, true, MatchResult, slice_index};
+ghost use Rattle.machine.specs.Table.{fine, wants, decoded, readied, moved};
 
-use super::bitwise::*;
-use super::control::*;
 use super::ending::Ending;
-use super::memory::*;
-use super::numeric::*;
-use super::op::{Op, decode};
+use super::view::View;
 use super::vm::Move;
 use words::instr::Instr;
+use words::op::Op;
 use words::store::Store;
+
+// The instruction of a number.
+#[tactic(auto, unfolding(crate::specs::Table::decoded))]
+fn decode(number: u16) -> Result<Op, Ending>
+    ensures { result ≡ decoded number }
+{
+    Ok(Op::try_from(number)?)
+}
+
+// Whether the operands are in order.
+fn fits(op: Op, a: u16, b: u16) -> bool
+    ensures { result ≡ fine op a b }
+{
+    match op {
+        Op::Ldx | Op::Stx | Op::Case | Op::For | Op::Next => true,
+        Op::Lit | Op::Load | Op::Stor | Op::Chk | Op::Drop | Op::Br | Op::Bre => b == 0,
+        Op::Cmp | Op::Lcmp => a <= 5 && b == 0,
+        Op::Fld | Op::Dep => 1 <= b && (b <= 15 && a <= 16 - b),
+        Op::Shf => a <= 4 && b <= 15,
+        _ => a == 0 && b == 0,
+    }
+}
+
+// How many words it looks at.
+fn count(op: Op, a: u16) -> u16
+    ensures { result ≡ wants op a }
+{
+    match op {
+        Op::Halt | Op::Lit | Op::Load | Op::Br => 0,
+        Op::Stor
+        | Op::Ldx
+        | Op::Chk
+        | Op::Dup
+        | Op::Neg
+        | Op::Not
+        | Op::Fld
+        | Op::Shf
+        | Op::Bre
+        | Op::Case => 1,
+        Op::Drop => a,
+        _ => 2,
+    }
+}
+
+// The operands are in order, and the words are there.
+fn ready(op: Op, a: u16, b: u16, height: u16) -> Result<(), Ending>
+    ensures { MatchResult result (λ _. (readied op a b height ≡ Ok tt) × (fine op a b ≡ true)) (λ e. readied op a b height ≡ Err e) }
+{
+    if !fits(op, a, b) {
+        return Err(Ending::BadOperand);
+    }
+    if height < count(op, a) {
+        return Err(Ending::Missing);
+    }
+    Ok(())
+}
+
+// The k-th word from the top, whatever it is where fewer are stacked.
+fn word(stack: &[u16], height: u16, k: u16) -> u16
+    ensures { result ≡ slice_index stack.now (height - k) }
+{
+    stack
+        .get(usize::from(height.saturating_sub(k)))
+        .copied()
+        .unwrap_or(0)
+}
 
 pub fn act<S: Store>(
     i: Instr,
@@ -19,43 +82,19 @@ pub fn act<S: Store>(
     stack: &[u16],
     store: &S,
 ) -> Result<Move, Ending>
-    requires { (height ≤ length stack.now) × (place < 65536) }
+    requires { place < 65536 }
     ensures { result ≡ moved i place height stack.now (S.Store.words store.now) }
 {
-    match decode(i.number)? {
-        Op::Halt => do_halt(i, height),
-        Op::Lit => do_lit(i, height),
-        Op::Load => do_load(i, height, store),
-        Op::Stor => do_stor(i, place, height, stack),
-        Op::Ldx => do_ldx(i, height, stack, store),
-        Op::Stx => do_stx(i, place, height, stack),
-        Op::Chk => do_chk(i, place, height, stack),
-        Op::Dup => do_dup(i, height, stack),
-        Op::Drop => do_drop(i, place, height),
-        Op::Add => do_add(i, height, stack),
-        Op::Sub => do_sub(i, height, stack),
-        Op::Mul => do_mul(i, height, stack),
-        Op::Div => do_div(i, height, stack),
-        Op::Rem => do_rem(i, height, stack),
-        Op::Neg => do_neg(i, height, stack),
-        Op::Ladd => do_ladd(i, height, stack),
-        Op::Lsub => do_lsub(i, height, stack),
-        Op::Lmul => do_lmul(i, height, stack),
-        Op::Ldiv => do_ldiv(i, height, stack),
-        Op::Lrem => do_lrem(i, height, stack),
-        Op::Cmp => do_cmp(i, height, stack),
-        Op::Lcmp => do_lcmp(i, height, stack),
-        Op::And => do_and(i, height, stack),
-        Op::Or => do_or(i, height, stack),
-        Op::Xor => do_xor(i, height, stack),
-        Op::Not => do_not(i, height, stack),
-        Op::Fld => do_fld(i, height, stack),
-        Op::Dep => do_dep(i, height, stack),
-        Op::Shf => do_shf(i, height, stack),
-        Op::Br => do_br(i, height),
-        Op::Bre => do_bre(i, place, height, stack),
-        Op::Case => do_case(i, height, stack),
-        Op::For => do_for(i, place, height, stack, store),
-        Op::Next => do_next(i, height, stack, store),
-    }
+    let op = decode(i.number)?;
+    ready(op, i.a, i.b, height)?;
+    let view = View {
+        op,
+        a: i.a,
+        b: i.b,
+        place,
+        top: word(stack, height, 1),
+        below: word(stack, height, 2),
+        store,
+    };
+    view.work()
 }

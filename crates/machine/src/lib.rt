@@ -2,14 +2,10 @@
 #![tactic(auto)]
 
 mod act;
-mod bitwise;
-mod control;
 pub mod ending;
 pub mod laws;
-mod memory;
-mod numeric;
-pub mod op;
-mod parts;
+pub mod machine;
 pub mod run;
 pub mod step;
+mod view;
 pub mod vm;

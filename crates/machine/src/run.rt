@@ -2,7 +2,7 @@
 ghost use Rattle.std.specs.Prelude.{◌≡◌};
 ghost use Rattle.machine.specs.Machine.{state, run as run_of, able_for, Steps};
 
-use super::step::cycle;
+use super::machine::{LIMIT, Machine};
 use super::vm::Vm;
 use words::instr::Instr;
 use words::store::Store;
@@ -23,15 +23,16 @@ pub fn run<S: Store>(
     if code.len() > 16383 || stack.len() < depth as usize || vm.height > depth {
         return None;
     }
-    if steps > 4000000000 || vm.steps > 4000000000 - steps || vm.writes > vm.steps {
+    if steps > LIMIT || vm.steps > LIMIT - steps || vm.writes > vm.steps {
         return None;
     }
-    let mut after = vm;
-    for i in 0..steps {
-        if after.ending.is_some() {
-            return Some(after);
-        }
-        cycle(&mut after, depth, code, stack, store);
-    }
-    Some(after)
+    let mut machine = Machine {
+        code,
+        depth,
+        stack,
+        store,
+        vm,
+    };
+    machine.run(steps);
+    Some(machine.vm)
 }

@@ -2,7 +2,7 @@
 use super::ending::Ending;
 
 // The place of the next instruction, the words stacked, the steps made, the cells written, and the ending once there is one.
-#[derive(Clone, Copy, PartialEq, Debug)]
+#[derive(Clone, Copy, PartialEq, Eq, Debug)]
 pub struct Vm {
     pub place: u32,
     pub height: u16,
@@ -11,20 +11,24 @@ pub struct Vm {
     pub ending: Option<Ending>,
 }
 
-// What follows the pops of a step that does not end the run: it goes on, pushes a word, or writes a cell.
-#[derive(Clone, Copy)]
-pub enum Kind {
-    Goes,
-    Pushes,
-    Writes,
-}
-
-// A step that is worked out and not yet made. A struct and not an enum with values, so that it stays in registers.
-#[derive(Clone, Copy)]
-pub struct Move {
-    pub kind: Kind,
-    pub pops: u16,
-    pub word: u16,
-    pub cell: u32,
-    pub place: u32,
+// A step that is worked out and not yet made.
+#[derive(Clone, Copy, PartialEq, Eq, Debug)]
+pub enum Move {
+    // Words are popped, and the run goes on at a place.
+    On {
+        pops: u16,
+        place: u32,
+    },
+    // Words are popped and one is pushed, and the run goes on at the next place.
+    Push {
+        pops: u16,
+        word: u16,
+    },
+    // Words are popped and a cell is written, and the run goes on at a place.
+    Write {
+        pops: u16,
+        cell: u32,
+        word: u16,
+        place: u32,
+    },
 }

@@ -1,10 +1,11 @@
 -- The loop over a list of calls.
-use Rattle.std.proofs.Common.{◌≡◌, ℕ, ◌+◌, ◌<◌, ◌≤◌, List, [], ◌∷◌, ◌++◌, length, get_or, take, drop, set, sym, ap, ◌∙◌, append_assoc, arith, take-append-drop}
+use Rattle.std.proofs.Common.{◌≡◌, ℕ, Result, ◌+◌, ◌<◌, ◌≤◌, List, [], ◌∷◌, ◌++◌, length, get_or, take, drop, set, sym, ap, ◌∙◌, append_assoc, arith, take-append-drop}
 use Rattle.std.proofs.lemmas.List.{drop_more, drop_all, append-nil, take_more_set}
 use Rattle.words.specs.declared.instr.Instr.{Instr}
 use Rattle.machine.specs.Machine.{State}
 use Rattle.session.specs.declared.call.Call.{Call}
 use Rattle.session.specs.declared.call.Answer.{Answer}
+use Rattle.session.specs.declared.fault.CallFault.{CallFault}
 use Rattle.session.specs.Calls.{answer_of, left_by, played, answers_of}
 
 module _ (c d : ℕ) (P : List Instr) (xs : List Call) (i : ℕ) (e : Call) (h : i < length xs) where
@@ -12,7 +13,7 @@ module _ (c d : ℕ) (P : List Instr) (xs : List Call) (i : ℕ) (e : Call) (h :
   unfolding played
   played_more s t u q p = ap (played c d P (drop (i + 1) xs)) q ∙ ap (λ l. played c d P l t) (sym (drop_more xs i e h)) ∙ p
 
-  pub answers_more : (s t u : State) (a : List Answer) (r : Answer) → i < length a → u ≡ left_by c d P (get_or xs i e) t → r ≡ answer_of c d P (get_or xs i e) t → take i a ++ answers_of c d P (drop i xs) t ≡ answers_of c d P xs s → take (i + 1) (set a i r) ++ answers_of c d P (drop (i + 1) xs) u ≡ answers_of c d P xs s
+  pub answers_more : (s t u : State) (a : List (Result Answer CallFault)) (r : Result Answer CallFault) → i < length a → u ≡ left_by c d P (get_or xs i e) t → r ≡ answer_of c d P (get_or xs i e) t → take i a ++ answers_of c d P (drop i xs) t ≡ answers_of c d P xs s → take (i + 1) (set a i r) ++ answers_of c d P (drop (i + 1) xs) u ≡ answers_of c d P xs s
   unfolding answers_of
   answers_more s t u a r k q w p =
       ap (λ l. l ++ answers_of c d P (drop (i + 1) xs) u) (take_more_set a i r k)
@@ -26,7 +27,7 @@ pub played_all : (c d : ℕ) (P : List Instr) (xs : List Call) (i : ℕ) (s t : 
 unfolding played
 played_all c d P xs i s t h p = ap (λ l. played c d P l t) (sym (drop_all i xs h)) ∙ p
 
-pub answers_all : (c d : ℕ) (P : List Instr) (xs : List Call) (i : ℕ) (s t : State) (a b : List Answer) → i ≡ length xs → take i a ++ answers_of c d P (drop i xs) t ≡ answers_of c d P xs s → drop (length xs) a ≡ drop (length xs) b → a ≡ answers_of c d P xs s ++ drop (length xs) b
+pub answers_all : (c d : ℕ) (P : List Instr) (xs : List Call) (i : ℕ) (s t : State) (a b : List (Result Answer CallFault)) → i ≡ length xs → take i a ++ answers_of c d P (drop i xs) t ≡ answers_of c d P xs s → drop (length xs) a ≡ drop (length xs) b → a ≡ answers_of c d P xs s ++ drop (length xs) b
 unfolding answers_of
 answers_all c d P xs i s t a b n p q =
     let l : length xs ≤ i = omega arith in

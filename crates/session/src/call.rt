@@ -1,15 +1,15 @@
 // Calls and their answers as values, and lists of them.
 ghost use Rattle.std.specs.Prelude.{◌≡◌};
-ghost use Rattle.machine.specs.Machine.{state};
+ghost use Rattle.session.specs.Lent.{state_of, Lasts};
 ghost use Rattle.session.specs.Calls.{answer_of, left_by, Plays};
 
-use crate::fault::SessionFault;
+use crate::fault::{CallFault, TooFewPlaces};
+use crate::lent::Lent;
 use crate::session::Session;
 use machine::vm::Vm;
-use words::instr::Instr;
-use words::store::{Store, StoreFault};
+use words::store::Store;
 
-#[derive(Clone, Copy)]
+#[derive(Clone, Copy, PartialEq, Eq, Debug)]
 pub enum Call {
     // with a limit of steps
     Resume(u64),
@@ -18,41 +18,35 @@ pub enum Call {
     Report,
 }
 
-#[derive(Clone, Copy)]
+#[derive(Clone, Copy, PartialEq, Eq, Debug)]
 pub enum Answer {
-    // to a report, and to a resume that was not refused
+    // to a resume and to a report
     Registers(Vm),
-    Refused(SessionFault),
     // to a look
     Word(u16),
-    NoCell(u16),
 }
 
 impl Session {
     // Makes one call.
     pub(crate) fn call<S: Store>(
         &mut self,
-        code: &[Instr],
-        stack: &mut [u16],
-        store: &mut S,
+        lent: &mut Lent<'_, '_, '_, S>,
         call: Call,
-    ) -> Answer
-        ensures answer { result ≡ answer_of self.old.cells self.old.depth code.now call (state self.old.vm stack.old (S.Store.words store.old)) }
-        ensures left { state self.new.vm stack.new (S.Store.words store.new) ≡ left_by self.old.cells self.old.depth code.now call (state self.old.vm stack.old (S.Store.words store.old)) }
-        ensures cells { self.new.cells ≡ self.old.cells }
-        ensures depth { self.new.depth ≡ self.old.depth }
-        ensures keeps { S.Store.keeps store.old store.new }
+    ) -> Result<Answer, CallFault>
+        ensures answer { result ≡ answer_of self.old.cells self.old.depth lent.old.code.now call (state_of S.Store.words self.old lent.old) }
+        ensures left { state_of S.Store.words self.new lent.new ≡ left_by self.old.cells self.old.depth lent.old.code.now call (state_of S.Store.words self.old lent.old) }
+        ensures lasts { Lasts S.Store.keeps self.old self.new lent.old lent.new }
     {
         match call {
-            Call::Resume(limit) => match self.resume(code, stack, store, limit) {
-                Ok(vm) => Answer::Registers(vm),
-                Err(e) => Answer::Refused(e),
-            },
-            Call::Look(cell) => match self.look(store, cell) {
-                Ok(w) => Answer::Word(w),
-                Err(_) => Answer::NoCell(cell),
-            },
-            Call::Report => Answer::Registers(self.report()),
+            Call::Resume(limit) => {
+                let vm = self.resume(lent, limit)?;
+                Ok(Answer::Registers(vm))
+            }
+            Call::Look(cell) => {
+                let w = self.look(lent.store, cell)?;
+                Ok(Answer::Word(w))
+            }
+            Call::Report => Ok(Answer::Registers(self.report())),
         }
     }
 
@@ -60,23 +54,19 @@ impl Session {
     // few places it makes none, and nothing changes.
     pub(crate) fn play<S: Store>(
         &mut self,
-        code: &[Instr],
-        stack: &mut [u16],
-        store: &mut S,
+        lent: &mut Lent<'_, '_, '_, S>,
         calls: &[Call],
-        answers: &mut [Answer],
-    ) -> bool
-        ensures did { Plays result self.old.cells self.old.depth code.now calls.now (state self.old.vm stack.old (S.Store.words store.old)) (state self.new.vm stack.new (S.Store.words store.new)) answers.old answers.new }
-        ensures cells { self.new.cells ≡ self.old.cells }
-        ensures depth { self.new.depth ≡ self.old.depth }
-        ensures keeps { S.Store.keeps store.old store.new }
+        answers: &mut [Result<Answer, CallFault>],
+    ) -> Result<(), TooFewPlaces>
+        ensures did { Plays result self.old.cells self.old.depth lent.old.code.now calls.now (state_of S.Store.words self.old lent.old) (state_of S.Store.words self.new lent.new) answers.old answers.new }
+        ensures lasts { Lasts S.Store.keeps self.old self.new lent.old lent.new }
     {
         if answers.len() < calls.len() {
-            return false;
+            return Err(TooFewPlaces);
         }
-        for i in 0..calls.len() {
-            answers[i] = self.call(code, stack, store, calls[i]);
+        for (i, call) in calls.iter().enumerate() {
+            answers[i] = self.call(lent, *call);
         }
-        true
+        Ok(())
     }
 }

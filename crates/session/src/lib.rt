@@ -3,5 +3,6 @@
 
 pub mod call;
 pub mod fault;
+pub mod lent;
 pub mod session;
 pub mod single;

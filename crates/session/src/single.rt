@@ -3,9 +3,10 @@ ghost use Rattle.std.specs.Prelude.{◌≡◌, length, replicate};
 ghost use Rattle.session.specs.Sessions.{Runs, single as single_of};
 
 use crate::fault::SessionFault;
+use crate::lent::Lent;
 use crate::session::Session;
 use machine::vm::Vm;
-use words::instr::Instr;
+use words::code::Code;
 use words::store::Store;
 
 // Stack words that are zeroed when the guard goes out of scope.
@@ -23,33 +24,34 @@ impl Drop for Wipe<'_> {
 }
 
 fn once<S: Store>(
-    cells: u16,
-    depth: u16,
-    code: &[Instr],
+    code: Code<'_>,
     stack: &mut [u16],
     store: &mut S,
     limit: u64,
 ) -> Result<Vm, SessionFault>
-    ensures did { Runs result (S.Store.words store.old) (S.Store.words store.new) (single_of cells depth code.now limit stack.old (S.Store.words store.old)) }
+    ensures did { Runs result (S.Store.words store.old) (S.Store.words store.new) (single_of code.entry.cells code.entry.depth code.entry.instructions.now limit stack.old (S.Store.words store.old)) }
     ensures keeps { S.Store.keeps store.old store.new }
 {
-    let mut session = Session::start(cells, depth, code, stack, store)?;
-    session.resume(code, stack, store, limit)
+    let mut lent = Lent {
+        code: code.instructions,
+        stack,
+        store,
+    };
+    let mut session = Session::start(code.cells, code.depth, &lent)?;
+    session.resume(&mut lent, limit)
 }
 
 // Starts and resumes once. The stack words are all zero afterwards, on every way out.
 pub(crate) fn single<S: Store>(
-    cells: u16,
-    depth: u16,
-    code: &[Instr],
+    code: Code<'_>,
     stack: &mut [u16],
     store: &mut S,
     limit: u64,
 ) -> Result<Vm, SessionFault>
     ensures cleared { stack.new ≡ replicate (length stack.old) 0 }
-    ensures did { Runs result (S.Store.words store.old) (S.Store.words store.new) (single_of cells depth code.now limit stack.old (S.Store.words store.old)) }
+    ensures did { Runs result (S.Store.words store.old) (S.Store.words store.new) (single_of code.entry.cells code.entry.depth code.entry.instructions.now limit stack.old (S.Store.words store.old)) }
     ensures keeps { S.Store.keeps store.old store.new }
 {
     let guard = Wipe { words: stack };
-    once(cells, depth, code, guard.words, store, limit)
+    once(code, guard.words, store, limit)
 }

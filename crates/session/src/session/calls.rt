@@ -2,39 +2,32 @@
 ghost use Rattle.std.specs.Prelude.{◌≡◌, ◌≤◌, length};
 ghost use Rattle.words.specs.Refusals.{told};
 ghost use Rattle.words.specs.Stores.{read_of, refusal_of};
-ghost use Rattle.machine.specs.Machine.{state};
-ghost use Rattle.session.specs.Sessions.{fitting, resumed, Starts, Resumes};
+ghost use Rattle.session.specs.Lent.{state_of, Lasts};
+ghost use Rattle.session.specs.Sessions.{fitting, unless, resumed, Starts, Resumes};
 
 use crate::fault::SessionFault;
+use crate::lent::Lent;
 use crate::session::Session;
-use machine::run::run;
+use machine::machine::{LIMIT, Machine};
 use machine::vm::Vm;
-use words::instr::Instr;
 use words::store::{Store, StoreFault};
 
-// Steps of a session at most.
-const MOST: u64 = 4000000000;
-
-// What of the code, the stack or the store will not do.
-fn misfit<S: Store>(
-    cells: u16,
-    depth: u16,
-    code: &[Instr],
-    stack: &[u16],
-    store: &S,
-) -> Option<SessionFault>
-    ensures { result ≡ fitting cells depth (length code.now) (length stack.now) (length (S.Store.words store.now)) }
-{
-    if code.len() == 0 || code.len() > 16383 {
-        return Some(SessionFault::BadCode);
+impl<S: Store> Lent<'_, '_, '_, S> {
+    // Whether it will do for a code of so many cells and such a depth.
+    fn fit(&self, cells: u16, depth: u16) -> Result<(), SessionFault>
+        ensures { result ≡ unless (fitting cells depth (length self.now.code.now) (length self.now.stack.now) (length (S.Store.words self.now.store.now))) tt }
+    {
+        if self.code.is_empty() || self.code.len() > 16383 {
+            return Err(SessionFault::BadCode);
+        }
+        if self.stack.len() < depth as usize {
+            return Err(SessionFault::ShortStack);
+        }
+        if self.store.size() < cells {
+            return Err(SessionFault::ShortStore);
+        }
+        Ok(())
     }
-    if stack.len() < depth as usize {
-        return Some(SessionFault::ShortStack);
-    }
-    if store.size() < cells {
-        return Some(SessionFault::ShortStore);
-    }
-    None
 }
 
 impl Session {
@@ -42,26 +35,22 @@ impl Session {
     pub(crate) fn start<S: Store>(
         cells: u16,
         depth: u16,
-        code: &[Instr],
-        stack: &[u16],
-        store: &S,
+        lent: &Lent<'_, '_, '_, S>,
     ) -> Result<Session, SessionFault>
-        ensures { Starts result cells depth (fitting cells depth (length code.now) (length stack.now) (length (S.Store.words store.now))) }
+        ensures { Starts result cells depth (fitting cells depth (length lent.now.code.now) (length lent.now.stack.now) (length (S.Store.words lent.now.store.now))) }
     {
-        match misfit(cells, depth, code, stack, store) {
-            Some(e) => Err(e),
-            None => Ok(Session {
-                cells,
-                depth,
-                vm: Vm {
-                    place: 0,
-                    height: 0,
-                    steps: 0,
-                    writes: 0,
-                    ending: None,
-                },
-            }),
-        }
+        lent.fit(cells, depth)?;
+        Ok(Session {
+            cells,
+            depth,
+            vm: Vm {
+                place: 0,
+                height: 0,
+                steps: 0,
+                writes: 0,
+                ending: None,
+            },
+        })
     }
 
     // Instruction, height, steps, cell writes, and the ending once there is one.
@@ -81,36 +70,32 @@ impl Session {
     // Makes `limit` steps, fewer only if the run ends or 4,000,000,000 in all are reached.
     pub(crate) fn resume<S: Store>(
         &mut self,
-        code: &[Instr],
-        stack: &mut [u16],
-        store: &mut S,
+        lent: &mut Lent<'_, '_, '_, S>,
         limit: u64,
     ) -> Result<Vm, SessionFault>
-        ensures did { Resumes result (state self.old.vm stack.old (S.Store.words store.old)) (state self.new.vm stack.new (S.Store.words store.new)) (resumed self.old.cells self.old.depth code.now limit (state self.old.vm stack.old (S.Store.words store.old))) }
-        ensures cells { self.new.cells ≡ self.old.cells }
-        ensures depth { self.new.depth ≡ self.old.depth }
-        ensures keeps { S.Store.keeps store.old store.new }
+        ensures did { Resumes result (state_of S.Store.words self.old lent.old) (state_of S.Store.words self.new lent.new) (resumed self.old.cells self.old.depth lent.old.code.now limit (state_of S.Store.words self.old lent.old)) }
+        ensures lasts { Lasts S.Store.keeps self.old self.new lent.old lent.new }
     {
-        if let Some(e) = misfit(self.cells, self.depth, code, stack, store) {
-            return Err(e);
-        }
+        lent.fit(self.cells, self.depth)?;
         if limit == 0 {
             return Err(SessionFault::NoSteps);
         }
         if self.vm.ending.is_some() {
             return Err(SessionFault::Ended);
         }
-        if self.vm.steps >= MOST {
+        if self.vm.steps >= LIMIT {
             return Err(SessionFault::UsedUp);
         }
-        let granted = limit.min(MOST - self.vm.steps);
-        match run(code, self.depth, stack, store, self.vm, granted) {
-            Some(vm) => {
-                self.vm = vm;
-                Ok(vm)
-            }
-            // never: all that it asks was looked at above
-            None => Err(SessionFault::UsedUp),
-        }
+        let granted = limit.min(LIMIT - self.vm.steps);
+        let mut machine = Machine {
+            code: lent.code,
+            depth: self.depth,
+            stack: &mut *lent.stack,
+            store: &mut *lent.store,
+            vm: self.vm,
+        };
+        machine.run(granted);
+        self.vm = machine.vm;
+        Ok(self.vm)
     }
 }

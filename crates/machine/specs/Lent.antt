@@ -1,0 +1,16 @@
+-- A machine over what it is lent.
+use Rattle.std.specs.Prelude.{◌≡◌, ℕ, List}
+use Rattle.machine.specs.declared.machine.Machine.{Machine}
+use Rattle.machine.specs.Machine.{State, state}
+
+-- its registers, stack and cells, where `words` says what cells a store stands for
+abbrev pub state_of : {S : Type 0} → (S → List ℕ) → Machine S → State
+state_of words m = state m.vm m.stack.now (words m.store.now)
+
+-- the code, the depth and the loans stay, and of the store what `keeps` says
+pub record Lasts {S : Type 0} (keeps : S → S → Type 0) (m n : Machine S) : Type 0 where
+  pub code : n.code ≡ m.code
+  pub depth : n.depth ≡ m.depth
+  pub stack : n.stack.ghost_name ≡ m.stack.ghost_name
+  pub store : n.store.ghost_name ≡ m.store.ghost_name
+  pub kept : keeps m.store.now n.store.now
