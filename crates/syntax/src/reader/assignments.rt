@@ -7,9 +7,9 @@ ghost use Rattle.syntax.specs.Machine.{sym, bits, into, target as a_target, targ
 ghost use Rattle.syntax.specs.Readers.{Ready, Done};
 
 use crate::fault::GrammarFault;
-use crate::lexeme::Strength;
+use crate::lexeme::{Named, Strength};
 use crate::node::Node;
-use crate::reader::{Named, Reader};
+use crate::reader::Reader;
 use crate::reader::tokens::put;
 use text::token::Symbol;
 
