@@ -13,7 +13,8 @@ use crate::reader::tokens::put;
 use text::token::{Keyword, Symbol};
 
 impl Reader<'_, '_> {
-    // A statement, perhaps an empty one. Its promise names each goal that may come below, for the searches of its callers.
+    // A statement, perhaps an empty one. Its promise names each goal that may come below: with that of `begun` alone the
+    // searches for its callers' proofs were tried and stop at their limits.
     #[cycle(statements)]
     fn statement(&mut self, levels: u8) -> Result<(), GrammarFault>
         ensures { StatementDone levels self.old self.new result }
