@@ -4,7 +4,7 @@ use Rattle.syntax.specs.declared.fault.GrammarFault.{GrammarFault}
 use Rattle.syntax.specs.declared.fault.GrammarFault.TheVariants.{Unexpected}
 use Rattle.syntax.specs.declared.lexeme.Strength.{Strength}
 use Rattle.syntax.specs.declared.node.TheConstants.{ROOM}
-use Rattle.syntax.specs.declared.lexeme.Named.{Named}
+use Rattle.syntax.specs.declared.lexeme.PlacedName.{PlacedName}
 use Rattle.syntax.specs.declared.reader.Range.{Range}
 use Rattle.syntax.specs.declared.reader.Reader.{Reader}
 use Rattle.text.specs.declared.token.Kind.{Kind}
@@ -80,7 +80,7 @@ abbrev pub DecimalTaken : Reader → Reader → Result (ℕ × ℕ) GrammarFault
 DecimalTaken r r' (Ok x) = Took (decimal_of (mark_of r.ahead.sort)) x.0 x.1 r r'
 DecimalTaken r r' (Err e) = Missed (decimal_of (mark_of r.ahead.sort)) e r r'
 
-abbrev pub NameTaken : Reader → Reader → Result Named GrammarFault → Type 0
+abbrev pub NameTaken : Reader → Reader → Result PlacedName GrammarFault → Type 0
 NameTaken r r' (Ok n) = Took (spelled_of (mark_of r.ahead.sort)) (name_of n.name) n.place r r'
 NameTaken r r' (Err e) = Missed (spelled_of (mark_of r.ahead.sort)) e r r'
 

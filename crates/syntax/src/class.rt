@@ -5,7 +5,7 @@ ghost use Rattle.syntax.specs.Marks.{mark_of, live, Classed, Opened, word_at, is
 ghost use Rattle.text.specs.Names.{name_of};
 
 use crate::fault::GrammarFault;
-use crate::lexeme::{Lexeme, Named, Opening, Sort, Strength};
+use crate::lexeme::{Lexeme, Opening, PlacedName, Sort, Strength};
 use crate::node::{Operator, ShiftKind};
 use text::token::{Keyword, Kind, Symbol};
 
@@ -203,12 +203,12 @@ impl Lexeme {
         }
     }
 
-    pub(crate) fn name(self) -> Option<Named>
+    pub(crate) fn name(self) -> Option<PlacedName>
         ensures name { Classed spelled_of self (option_map (λ n. name_of n.name) result) }
         ensures place { IfSome result (λ n. n.place ≡ self.place) }
     {
         match self.sort {
-            Sort::Name(name) => Some(Named {
+            Sort::Name(name) => Some(PlacedName {
                 name,
                 place: self.place,
             }),

@@ -23,7 +23,7 @@ pub struct Lexeme {
 
 // A name, and its place.
 #[derive(Clone, Copy)]
-pub struct Named {
+pub(crate) struct PlacedName {
     pub name: Name,
     pub place: usize,
 }

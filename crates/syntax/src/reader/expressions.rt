@@ -5,7 +5,7 @@ ghost use Rattle.syntax.specs.Machine.{wants, right, fields, relation as a_relat
 ghost use Rattle.syntax.specs.Readers.{Ready, Done, FirstDone};
 
 use crate::fault::GrammarFault;
-use crate::lexeme::{Named, Strength};
+use crate::lexeme::{PlacedName, Strength};
 use crate::node::Node;
 use crate::reader::Reader;
 use crate::reader::tokens::put;
@@ -132,7 +132,7 @@ impl Reader<'_, '_> {
 
     // What may follow a name: its subscript.
     #[cycle(expressions)]
-    fn named(&mut self, n: Named, levels: u8) -> Result<(), GrammarFault>
+    fn named(&mut self, n: PlacedName, levels: u8) -> Result<(), GrammarFault>
         requires { Ready 2 self.old }
         ensures { Done 2 1 (a_named (name_of n.name) n.place levels ∷ []) self.old self.new result }
     {

@@ -6,7 +6,7 @@ ghost use Rattle.syntax.specs.Machine.{stmt, block as a_block, otherwise as an_e
 ghost use Rattle.syntax.specs.Readers.{Ready, Done, StatementDone};
 
 use crate::fault::GrammarFault;
-use crate::lexeme::{Named, Opening, Strength};
+use crate::lexeme::{Opening, PlacedName, Strength};
 use crate::node::Node;
 use crate::reader::Reader;
 use crate::reader::tokens::put;
@@ -179,7 +179,7 @@ impl Reader<'_, '_> {
     // STEP and its value, or 1; then UNTIL.
     #[cycle(statements)]
     #[tactic(auto, unfolding(crate::specs::Machine::stepping))]
-    fn stepped(&mut self, n: Named, place: usize, levels: u8) -> Result<(), GrammarFault>
+    fn stepped(&mut self, n: PlacedName, place: usize, levels: u8) -> Result<(), GrammarFault>
         ensures { Done 0 0 (a_step (name_of n.name) n.place place levels ∷ []) self.old self.new result }
     {
         if self.ahead.is_keyword(Keyword::Step) {
@@ -197,7 +197,7 @@ impl Reader<'_, '_> {
     // The limit of a FOR, DO and its statement.
     #[cycle(statements)]
     #[tactic(auto, unfolding(crate::specs::Machine::limited))]
-    fn turns(&mut self, n: Named, place: usize, levels: u8) -> Result<(), GrammarFault>
+    fn turns(&mut self, n: PlacedName, place: usize, levels: u8) -> Result<(), GrammarFault>
         ensures { Done 0 0 (the_turns (name_of n.name) n.place place levels ∷ []) self.old self.new result }
     {
         self.chain(Strength::Lor, levels)?;

@@ -5,7 +5,7 @@ ghost use Rattle.syntax.specs.Machine.{sym, word};
 ghost use Rattle.syntax.specs.Readers.{Done, Advanced, Taken, DecimalTaken, NameTaken, RangeDone};
 
 use crate::fault::GrammarFault;
-use crate::lexeme::Named;
+use crate::lexeme::PlacedName;
 use crate::node::{Node, Nodes, ROOM};
 use crate::reader::{Range, Reader};
 use crate::scan::scan;
@@ -63,7 +63,7 @@ impl Reader<'_, '_> {
         Ok((v, place))
     }
 
-    pub(crate) fn name(&mut self) -> Result<Named, GrammarFault>
+    pub(crate) fn name(&mut self) -> Result<PlacedName, GrammarFault>
         ensures { NameTaken self.old self.new result }
     {
         let named = self.ahead.name().ok_or(self.ahead.unexpected())?;
