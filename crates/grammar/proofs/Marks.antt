@@ -1,5 +1,6 @@
 -- Marks told apart: what one class of marks is, it is not of another. Assumes nothing.
 use Rattle.std.proofs.Common.{◌≡◌, ℕ, suc, ◌≤◌, max, Bool, true, false, cond, List, Some, None, Option, sym, refl, ap, ◌∙◌, arith}
+use Rattle.std.proofs.lemmas.Bool.{false_from_ne_true}
 use denote.Enum.Bare.{same_true, false_same}
 use Rattle.text.specs.declared.token.Kind.{Kind}
 use Rattle.text.specs.declared.token.Keyword.{Keyword}
@@ -18,42 +19,32 @@ use Rattle.syntax.specs.contracts.lexeme.Strength.{the_type as strength_type}
 use Rattle.syntax.specs.Marks.{Mark, keyword, symbol, name, number, stop, seen, worded, is_stop, is_symbol, is_keyword, same_strength, literal_of, kind_of, operator_at, operator_sign, operator_word, strength_of, kept, truth_word, truth_at, kind_word}
 
 -- Booleans and options
-pub apart : {A : Type 0} → true ≡ false → A
-apart h = absurd cc
-
 pub both : {A : Type 0} {b : Bool} → b ≡ true → b ≡ false → A
-both p q = apart (sym p ∙ q)
+both p q = absurd cc
 
 pub empty : {A B : Type 0} {x : A} {o : Option A} → o ≡ Some x → o ≡ None → B
 empty p q = absurd cc
 
-pub not_true : {b : Bool} → (b ≡ true → ⊥) → b ≡ false
-not_true {b} h = go b h
-  where
-    go : (x : Bool) → (x ≡ true → ⊥) → x ≡ false
-    go true f = absurd (f refl)
-    go false f = refl
-
 pub symbol_is : (s : Symbol) (m : Mark) → is_symbol s m ≡ true → m ≡ symbol s
 symbol_is s (symbol x) h = ap symbol (sym (same_true symbol_type tt s x h))
-symbol_is s (keyword w) h = apart (sym h)
-symbol_is s (name n) h = apart (sym h)
-symbol_is s (number k v) h = apart (sym h)
-symbol_is s stop h = apart (sym h)
+symbol_is s (keyword w) h = absurd cc
+symbol_is s (name n) h = absurd cc
+symbol_is s (number k v) h = absurd cc
+symbol_is s stop h = absurd cc
 
 pub keyword_is : (w : Keyword) (m : Mark) → is_keyword w m ≡ true → m ≡ keyword w
 keyword_is w (keyword x) h = ap keyword (sym (same_true keyword_type tt w x h))
-keyword_is w (symbol s) h = apart (sym h)
-keyword_is w (name n) h = apart (sym h)
-keyword_is w (number k v) h = apart (sym h)
-keyword_is w stop h = apart (sym h)
+keyword_is w (symbol s) h = absurd cc
+keyword_is w (name n) h = absurd cc
+keyword_is w (number k v) h = absurd cc
+keyword_is w stop h = absurd cc
 
 -- a mark that a function answers to is not one that it does not
 pub not_keyword : {A : Type 0} (f : Mark → Option A) (w : Keyword) (m : Mark) {x : A} → f (keyword w) ≡ None → f m ≡ Some x → is_keyword w m ≡ false
-not_keyword f w m n h = not_true (λ t. empty h (ap f (keyword_is w m t) ∙ n))
+not_keyword f w m n h = false_from_ne_true _ (λ t. empty h (ap f (keyword_is w m t) ∙ n))
 
 pub not_symbol : {A : Type 0} (f : Mark → Option A) (s : Symbol) (m : Mark) {x : A} → f (symbol s) ≡ None → f m ≡ Some x → is_symbol s m ≡ false
-not_symbol f s m n h = not_true (λ t. empty h (ap f (symbol_is s m t) ∙ n))
+not_symbol f s m n h = false_from_ne_true _ (λ t. empty h (ap f (symbol_is s m t) ∙ n))
 
 -- a type's word is no literal
 word_kind : (w : Keyword) {k : Kind} → kind_word w ≡ Some k → truth_at (truth_word w) ≡ None
@@ -192,13 +183,13 @@ operator_none s (number k v) h = refl
 operator_none s stop h = refl
 
 pub no_dot : (m : Mark) → grip m ≤ 6 → is_symbol sign.Dot m ≡ false
-no_dot m h = not_true (λ t. let e = ap grip (symbol_is sign.Dot m t) in omega arith)
+no_dot m h = false_from_ne_true _ (λ t. let e = ap grip (symbol_is sign.Dot m t) in omega arith)
 
 pub no_ampersand : (m : Mark) → grip m ≤ 6 → is_symbol sign.Ampersand m ≡ false
-no_ampersand m h = not_true (λ t. let e = ap grip (symbol_is sign.Ampersand m t) in omega arith)
+no_ampersand m h = false_from_ne_true _ (λ t. let e = ap grip (symbol_is sign.Ampersand m t) in omega arith)
 
 pub no_open : (m : Mark) → grip m ≤ 7 → is_symbol sign.Open m ≡ false
-no_open m h = not_true (λ t. let e = ap grip (symbol_is sign.Open m t) in omega arith)
+no_open m h = false_from_ne_true _ (λ t. let e = ap grip (symbol_is sign.Open m t) in omega arith)
 
 -- no token of a text is its end
 word_live : (w : List ℕ) (k : Option Keyword) → is_stop (worded w k) ≡ false

@@ -1,5 +1,5 @@
 -- Tokens as the grammar looks at them, and the classes that it tells apart.
-use Rattle.std.specs.Prelude.{◌≡◌, ℕ, Bool, true, false, cond, List, Some, None, Option, OnSome}
+use Rattle.std.specs.Prelude.{◌≡◌, ℕ, ◌-◌, ◌<◌, Bool, true, false, cond, List, Some, None, Ok, Err, Option, Result, ◌==◌, OnSome}
 use Rattle.text.specs.declared.token.Kind.{Kind}
 use Rattle.text.specs.declared.token.Kind.TheVariants as kind
 use Rattle.text.specs.declared.token.Keyword.{Keyword}
@@ -12,6 +12,8 @@ use Rattle.text.specs.Names.{name_of}
 use Rattle.text.specs.Reserved.{keyword_of}
 use Rattle.text.specs.Cut.{Piece}
 use Rattle.text.specs.Cut as piece
+use Rattle.syntax.specs.declared.fault.GrammarFault.{GrammarFault}
+use Rattle.syntax.specs.declared.fault.GrammarFault.TheVariants.{TooDeep}
 use Rattle.syntax.specs.declared.node.Operator.{Operator}
 use Rattle.syntax.specs.declared.node.Operator.TheVariants as operator
 use Rattle.syntax.specs.declared.node.ShiftKind.{ShiftKind}
@@ -368,3 +370,8 @@ operator_at s m = kept s (operator_of m)
 -- A class answers so at a token: and the end of the text is in no class.
 abbrev pub Classed : {A : Type 0} → (Mark → Option A) → Lexeme → Option A → Type 0
 Classed class x r = (r ≡ class (mark_of x.sort)) × OnSome r (live (mark_of x.sort) ≡ 1)
+
+-- a level is opened by the token: so many are left then, or it is one too many
+abbrev pub Opened : Lexeme → (l : ℕ) → Result ℕ GrammarFault → Type 0
+Opened x l (Ok n) = ((l == 0) ≡ false) × (l - 1 ≡ n) × (n < l)
+Opened x l (Err e) = ((l == 0) ≡ true) × (e ≡ TooDeep x.place)

@@ -1,9 +1,10 @@
 -- What the readers ask and leave.
-use Rattle.std.specs.Prelude.{◌≡◌, ℕ, ◌+◌, ◌*◌, ◌<◌, ◌≤◌, Bool, true, false, List, ◌∷◌, ◌++◌, length, Some, None, Ok, Err, Option, Result}
+use Rattle.std.specs.Prelude.{◌≡◌, ℕ, ◌+◌, ◌*◌, ◌≤◌, Bool, true, false, List, ◌∷◌, ◌++◌, length, Some, None, Ok, Err, Option, Result}
 use Rattle.syntax.specs.declared.fault.GrammarFault.{GrammarFault}
 use Rattle.syntax.specs.declared.fault.GrammarFault.TheVariants.{Unexpected}
 use Rattle.syntax.specs.declared.lexeme.Strength.{Strength}
-use Rattle.syntax.specs.declared.reader.Named.{Named}
+use Rattle.syntax.specs.declared.node.TheConstants.{ROOM}
+use Rattle.syntax.specs.declared.lexeme.PlacedName.{PlacedName}
 use Rattle.syntax.specs.declared.reader.Range.{Range}
 use Rattle.syntax.specs.declared.reader.Reader.{Reader}
 use Rattle.text.specs.declared.token.Kind.{Kind}
@@ -29,7 +30,7 @@ runs r gs = feed (tok_of r.ahead) (behind r.end r.rest.now) gs (entries r.out.no
 
 -- what a reader's type says, and m entries more are paid for
 abbrev pub Ready : ℕ → Reader → Type 0
-Ready m r = length r.out.now + 2 * weight r + m ≤ 65536
+Ready m r = length r.out.now + 2 * weight r + m ≤ ROOM
 
 -- what stays whatever comes
 pub record Kept (r r' : Reader) : Type 0 where
@@ -71,11 +72,15 @@ pub record Missed {A : Type 0} (sought : Option A) (e : GrammarFault) (r r' : Re
   pub fault : e ≡ Unexpected r.ahead.place
   pub kept : Kept r r'
 
+abbrev pub Taken : (here : Bool) → Reader → Reader → Result (Unit {0}) GrammarFault → Type 0
+Taken here r r' (Ok u) = (here ≡ true) × Advanced r r'
+Taken here r r' (Err e) = (here ≡ false) × (e ≡ Unexpected r.ahead.place) × Kept r r'
+
 abbrev pub DecimalTaken : Reader → Reader → Result (ℕ × ℕ) GrammarFault → Type 0
 DecimalTaken r r' (Ok x) = Took (decimal_of (mark_of r.ahead.sort)) x.0 x.1 r r'
 DecimalTaken r r' (Err e) = Missed (decimal_of (mark_of r.ahead.sort)) e r r'
 
-abbrev pub NameTaken : Reader → Reader → Result Named GrammarFault → Type 0
+abbrev pub NameTaken : Reader → Reader → Result PlacedName GrammarFault → Type 0
 NameTaken r r' (Ok n) = Took (spelled_of (mark_of r.ahead.sort)) (name_of n.name) n.place r r'
 NameTaken r r' (Err e) = Missed (spelled_of (mark_of r.ahead.sort)) e r r'
 

@@ -1,13 +1,12 @@
 // The classes of tokens that the grammar tells apart.
-ghost use Rattle.std.specs.Prelude.{◌≡◌, T, option_map};
+ghost use Rattle.std.specs.Prelude.{◌≡◌, T, IfSome, option_map};
 ghost use Rattle.syntax.specs.declared.fault.GrammarFault.TheVariants.{Unexpected};
-ghost use Rattle.syntax.specs.Marks.{mark_of, live, Classed, word_at, is_symbol, is_keyword, decimal_of, kind_of, shift_of, shift_word, kind_word, truth_word, opening_word, operator_of, operator_at, operator_sign, operator_word, strength_of, literal_of, spelled_of, opening_of, is_stop};
+ghost use Rattle.syntax.specs.Marks.{mark_of, live, Classed, Opened, word_at, is_symbol, is_keyword, decimal_of, kind_of, shift_of, shift_word, kind_word, truth_word, opening_word, operator_of, operator_at, operator_sign, operator_word, strength_of, literal_of, spelled_of, opening_of, is_stop};
 ghost use Rattle.text.specs.Names.{name_of};
 
 use crate::fault::GrammarFault;
-use crate::lexeme::{Lexeme, Opening, Sort, Strength};
+use crate::lexeme::{Lexeme, Opening, PlacedName, Sort, Strength};
 use crate::node::{Operator, ShiftKind};
-use text::name::Name;
 use text::token::{Keyword, Kind, Symbol};
 
 // The conversions below give an Option, and are no TryFrom: a word that is none of these is no error, so a type for
@@ -204,12 +203,26 @@ impl Lexeme {
         }
     }
 
-    pub(crate) fn name(self) -> Option<Name>
-        ensures { Classed spelled_of self (option_map name_of result) }
+    pub(crate) fn name(self) -> Option<PlacedName>
+        ensures name { Classed spelled_of self (option_map (λ n. name_of n.name) result) }
+        ensures place { IfSome result (λ n. n.place ≡ self.place) }
     {
         match self.sort {
-            Sort::Name(n) => Some(n),
+            Sort::Name(name) => Some(PlacedName {
+                name,
+                place: self.place,
+            }),
             _ => None,
         }
+    }
+
+    // How many levels are left where the token opens one.
+    pub(crate) fn opens(self, levels: u8) -> Result<u8, GrammarFault>
+        ensures { Opened self levels result }
+    {
+        if levels == 0 {
+            return Err(GrammarFault::TooDeep(self.place));
+        }
+        Ok(levels - 1)
     }
 }

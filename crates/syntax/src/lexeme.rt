@@ -21,6 +21,13 @@ pub struct Lexeme {
     pub place: usize,
 }
 
+// A name, and its place.
+#[derive(Clone, Copy)]
+pub(crate) struct PlacedName {
+    pub name: Name,
+    pub place: usize,
+}
+
 // The strength of a binary operator, from the weakest.
 #[derive(Clone, Copy, PartialEq, Eq, Debug)]
 pub enum Strength {

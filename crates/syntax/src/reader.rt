@@ -1,10 +1,10 @@
 // The state of the readers: the token ahead, the text after it, and the list written so far.
 ghost use Rattle.std.specs.Prelude.{◌+◌, ◌*◌, ◌≤◌, length};
+ghost use Rattle.syntax.specs.declared.node.TheConstants.{ROOM};
 ghost use Rattle.syntax.specs.Marks.{mark_of, live};
 
 use crate::lexeme::Lexeme;
 use crate::node::Nodes;
-use text::name::Name;
 
 mod assignments;
 mod conditions;
@@ -16,16 +16,9 @@ mod tokens;
 
 pub(crate) use declarations::whole;
 
-// A name, and its place.
-#[derive(Clone, Copy)]
-pub struct Named {
-    name: Name,
-    place: usize,
-}
-
 // Two numbers in parentheses, and the place of the first.
 #[derive(Clone, Copy)]
-pub struct Range {
+pub(crate) struct Range {
     first: u16,
     second: u16,
     place: usize,
@@ -38,5 +31,5 @@ pub struct Reader<'a, 'w> {
     end: usize,
     out: &'w mut Nodes,
     // each token left, the one ahead with them, pays for two entries
-    ghost room: { length out.now + 2 * (length rest.now + live (mark_of ahead.sort)) ≤ 65536 },
+    ghost room: { length out.now + 2 * (length rest.now + live (mark_of ahead.sort)) ≤ ROOM },
 }

@@ -16,6 +16,7 @@ impl Workspace {
     ghost use Rattle.syntax.specs.Works.{list_of, Read};
 
     // The only call that asks for memory.
+    #[tactic(auto, unfolding(crate::specs::Entries::entries))]
     pub fn new(heap: Global) -> Result<Workspace, AllocError>
         ensures { IfOk result (λ w. list_of w ≡ []) }
     {

@@ -7,14 +7,14 @@ ghost use Rattle.syntax.specs.Machine.{sym, bits, into, target as a_target, targ
 ghost use Rattle.syntax.specs.Readers.{Ready, Done};
 
 use crate::fault::GrammarFault;
-use crate::lexeme::Strength;
+use crate::lexeme::{PlacedName, Strength};
 use crate::node::Node;
-use crate::reader::{Named, Reader};
+use crate::reader::Reader;
 use crate::reader::tokens::put;
 use text::token::Symbol;
 
 // The write that ends an assignment.
-fn stored(subscript: bool, n: Named, becomes: usize) -> Node
+fn stored(subscript: bool, n: PlacedName, becomes: usize) -> Node
     ensures { entry_of result ≡ stored_as subscript (name_of n.name) n.place becomes }
 {
     if subscript {
@@ -26,7 +26,7 @@ fn stored(subscript: bool, n: Named, becomes: usize) -> Node
 
 impl Reader<'_, '_> {
     // What follows the name that begins an assignment: its subscript, a field, `:=` and the value.
-    pub(crate) fn target(&mut self, n: Named, levels: u8) -> Result<(), GrammarFault>
+    pub(crate) fn target(&mut self, n: PlacedName, levels: u8) -> Result<(), GrammarFault>
         requires { Ready 2 self.old }
         ensures { Done 2 0 (a_target (name_of n.name) n.place levels ∷ []) self.old self.new result }
     {
@@ -47,7 +47,7 @@ impl Reader<'_, '_> {
     }
 
     // The same after its subscript. It is no part of `target`: each entry that it writes is another, and one more.
-    fn target_at(&mut self, n: Named, paren: usize, levels: u8) -> Result<(), GrammarFault>
+    fn target_at(&mut self, n: PlacedName, paren: usize, levels: u8) -> Result<(), GrammarFault>
         requires { Ready 2 self.old }
         ensures { Done 2 0 (target_in (name_of n.name) n.place paren levels ∷ []) self.old self.new result }
     {
@@ -65,7 +65,7 @@ impl Reader<'_, '_> {
     }
 
     // A field left of `:=`, and the value.
-    fn deposit(&mut self, subscript: bool, n: Named, levels: u8) -> Result<(), GrammarFault>
+    fn deposit(&mut self, subscript: bool, n: PlacedName, levels: u8) -> Result<(), GrammarFault>
         requires { Ready 2 self.old }
         ensures { Done 2 0 (sym Open ∷ bits (into subscript (name_of n.name) n.place levels) ∷ []) self.old self.new result }
     {

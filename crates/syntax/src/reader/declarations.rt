@@ -5,7 +5,7 @@ ghost use Rattle.syntax.specs.Machine.{declarations as some_declarations, typed 
 ghost use Rattle.syntax.specs.Readers.{Done, ProgramDone, WholeDone};
 
 use crate::fault::GrammarFault;
-use crate::node::{Node, Nodes};
+use crate::node::{Node, Nodes, ROOM};
 use crate::reader::Reader;
 use crate::reader::tokens::put;
 use crate::scan::scan;
@@ -93,7 +93,7 @@ impl Reader<'_, '_> {
 
 // Reads all of `source` as a program. There is room for two entries a byte.
 pub(crate) fn whole(source: &[u8], out: &mut Nodes) -> Result<(), GrammarFault>
-    requires { length out.old + 2 * length source.now ≤ 65536 }
+    requires { length out.old + 2 * length source.now ≤ ROOM }
     ensures { WholeDone source.now (entries out.old) (entries out.new) result }
 {
     let end = source.len();

@@ -5,9 +5,9 @@ ghost use Rattle.syntax.specs.Machine.{wants, right, fields, relation as a_relat
 ghost use Rattle.syntax.specs.Readers.{Ready, Done, FirstDone};
 
 use crate::fault::GrammarFault;
-use crate::lexeme::Strength;
+use crate::lexeme::{PlacedName, Strength};
 use crate::node::Node;
-use crate::reader::{Named, Reader};
+use crate::reader::Reader;
 use crate::reader::tokens::put;
 use text::token::{Keyword, Symbol};
 
@@ -60,11 +60,9 @@ impl Reader<'_, '_> {
     {
         if self.ahead.is_keyword(Keyword::Lnot) {
             let place = self.ahead.place;
-            if levels == 0 {
-                return Err(GrammarFault::TooDeep(place));
-            }
+            let within = self.ahead.opens(levels)?;
             self.advance();
-            self.relation(levels - 1)?;
+            self.relation(within)?;
             put(self.out, Node::Lnot(place));
             return Ok(());
         }
@@ -125,17 +123,16 @@ impl Reader<'_, '_> {
             put(self.out, Node::Convert(kind));
             return Ok(());
         }
-        if let Some(name) = self.ahead.name() {
-            let place = self.ahead.place;
+        if let Some(n) = self.ahead.name() {
             self.advance();
-            return self.named(Named { name, place }, levels);
+            return self.named(n, levels);
         }
         self.paren(levels)
     }
 
     // What may follow a name: its subscript.
     #[cycle(expressions)]
-    fn named(&mut self, n: Named, levels: u8) -> Result<(), GrammarFault>
+    fn named(&mut self, n: PlacedName, levels: u8) -> Result<(), GrammarFault>
         requires { Ready 2 self.old }
         ensures { Done 2 1 (a_named (name_of n.name) n.place levels ∷ []) self.old self.new result }
     {
@@ -157,11 +154,9 @@ impl Reader<'_, '_> {
         if !self.ahead.is_symbol(Symbol::Open) {
             return Err(self.ahead.unexpected());
         }
-        if levels == 0 {
-            return Err(GrammarFault::TooDeep(self.ahead.place));
-        }
+        let within = self.ahead.opens(levels)?;
         self.advance();
-        self.chain(Strength::Lor, levels - 1)?;
+        self.chain(Strength::Lor, within)?;
         self.symbol(Symbol::Close)
     }
 }

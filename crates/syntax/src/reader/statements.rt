@@ -6,14 +6,15 @@ ghost use Rattle.syntax.specs.Machine.{stmt, block as a_block, otherwise as an_e
 ghost use Rattle.syntax.specs.Readers.{Ready, Done, StatementDone};
 
 use crate::fault::GrammarFault;
-use crate::lexeme::{Opening, Strength};
+use crate::lexeme::{Opening, PlacedName, Strength};
 use crate::node::Node;
-use crate::reader::{Named, Reader};
+use crate::reader::Reader;
 use crate::reader::tokens::put;
 use text::token::{Keyword, Symbol};
 
 impl Reader<'_, '_> {
-    // A statement, perhaps an empty one.
+    // A statement, perhaps an empty one. Its promise names each goal that may come below: with that of `begun` alone the
+    // searches for its callers' proofs were tried and stop at their limits.
     #[cycle(statements)]
     fn statement(&mut self, levels: u8) -> Result<(), GrammarFault>
         ensures { StatementDone levels self.old self.new result }
@@ -23,22 +24,21 @@ impl Reader<'_, '_> {
 
     // A statement by its first token.
     #[cycle(statements)]
+    #[tactic(auto, unfolding(crate::specs::Machine::stated))]
     fn begun(&mut self, levels: u8) -> Result<(), GrammarFault>
         ensures { Done 0 0 (stmt levels ∷ []) self.old self.new result }
     {
         let place = self.ahead.place;
-        if let Some(name) = self.ahead.name() {
+        if let Some(n) = self.ahead.name() {
             self.advance();
-            return self.target(Named { name, place }, levels);
+            return self.target(n, levels);
         }
         let Some(opening) = self.ahead.opening() else {
             return Ok(());
         };
-        if levels == 0 {
-            return Err(GrammarFault::TooDeep(place));
-        }
+        let within = self.ahead.opens(levels)?;
         self.advance();
-        self.inner(opening, place, levels - 1)
+        self.inner(opening, place, within)
     }
 
     // What follows the reserved word at `place`, which has opened a level.
@@ -178,7 +178,8 @@ impl Reader<'_, '_> {
 
     // STEP and its value, or 1; then UNTIL.
     #[cycle(statements)]
-    fn stepped(&mut self, n: Named, place: usize, levels: u8) -> Result<(), GrammarFault>
+    #[tactic(auto, unfolding(crate::specs::Machine::stepping))]
+    fn stepped(&mut self, n: PlacedName, place: usize, levels: u8) -> Result<(), GrammarFault>
         ensures { Done 0 0 (a_step (name_of n.name) n.place place levels ∷ []) self.old self.new result }
     {
         if self.ahead.is_keyword(Keyword::Step) {
@@ -195,7 +196,8 @@ impl Reader<'_, '_> {
 
     // The limit of a FOR, DO and its statement.
     #[cycle(statements)]
-    fn turns(&mut self, n: Named, place: usize, levels: u8) -> Result<(), GrammarFault>
+    #[tactic(auto, unfolding(crate::specs::Machine::limited))]
+    fn turns(&mut self, n: PlacedName, place: usize, levels: u8) -> Result<(), GrammarFault>
         ensures { Done 0 0 (the_turns (name_of n.name) n.place place levels ∷ []) self.old self.new result }
     {
         self.chain(Strength::Lor, levels)?;

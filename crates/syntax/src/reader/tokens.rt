@@ -2,17 +2,18 @@
 ghost use Rattle.std.specs.Prelude.{◌≡◌, ◌+◌, ◌<◌, [], ◌∷◌, ◌++◌, length};
 ghost use Rattle.syntax.specs.Entries.{entry_of, entries};
 ghost use Rattle.syntax.specs.Machine.{sym, word};
-ghost use Rattle.syntax.specs.Readers.{Done, Advanced, DecimalTaken, NameTaken, RangeDone};
+ghost use Rattle.syntax.specs.Readers.{Done, Advanced, Taken, DecimalTaken, NameTaken, RangeDone};
 
 use crate::fault::GrammarFault;
-use crate::node::{Node, Nodes};
-use crate::reader::{Named, Range, Reader};
+use crate::lexeme::PlacedName;
+use crate::node::{Node, Nodes, ROOM};
+use crate::reader::{Range, Reader};
 use crate::scan::scan;
 use text::token::{Keyword, Symbol};
 
 // Writes an entry into the room that was reserved.
 pub(crate) fn put(out: &mut Nodes, node: Node)
-    requires { length out.old < 65536 }
+    requires { length out.old < ROOM }
     ensures items { entries out.new ≡ entries out.old ++ entry_of node ∷ [] }
     ensures len { length out.new ≡ length out.old + 1 }
 {
@@ -29,24 +30,27 @@ impl Reader<'_, '_> {
         self.rest = rest;
     }
 
-    pub(crate) fn symbol(&mut self, want: Symbol) -> Result<(), GrammarFault>
-        ensures { Done 0 2 (sym want ∷ []) self.old self.new result }
+    // Goes on, if what has to come is ahead.
+    fn take(&mut self, here: bool) -> Result<(), GrammarFault>
+        ensures { Taken here self.old self.new result }
     {
-        if !self.ahead.is_symbol(want) {
+        if !here {
             return Err(self.ahead.unexpected());
         }
         self.advance();
         Ok(())
     }
 
+    pub(crate) fn symbol(&mut self, want: Symbol) -> Result<(), GrammarFault>
+        ensures { Done 0 2 (sym want ∷ []) self.old self.new result }
+    {
+        self.take(self.ahead.is_symbol(want))
+    }
+
     pub(crate) fn keyword(&mut self, want: Keyword) -> Result<(), GrammarFault>
         ensures { Done 0 2 (word want ∷ []) self.old self.new result }
     {
-        if !self.ahead.is_keyword(want) {
-            return Err(self.ahead.unexpected());
-        }
-        self.advance();
-        Ok(())
+        self.take(self.ahead.is_keyword(want))
     }
 
     // A decimal number, and its place.
@@ -59,13 +63,12 @@ impl Reader<'_, '_> {
         Ok((v, place))
     }
 
-    pub(crate) fn name(&mut self) -> Result<Named, GrammarFault>
+    pub(crate) fn name(&mut self) -> Result<PlacedName, GrammarFault>
         ensures { NameTaken self.old self.new result }
     {
-        let place = self.ahead.place;
-        let name = self.ahead.name().ok_or(self.ahead.unexpected())?;
+        let named = self.ahead.name().ok_or(self.ahead.unexpected())?;
         self.advance();
-        Ok(Named { name, place })
+        Ok(named)
     }
 
     // (d:d)
