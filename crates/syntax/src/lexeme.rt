@@ -1,7 +1,10 @@
 // A token as the grammar looks at it: a reserved word, a symbol, a name or a number, or the end of the text.
+ghost use Rattle.std.specs.Prelude.{◌≡◌};
+
 use text::name::Name;
 use text::token::{Keyword, Kind, Symbol};
 
+// No `PartialEq`: a name has none.
 #[derive(Clone, Copy)]
 pub enum Sort {
     Keyword(Keyword),
@@ -19,7 +22,7 @@ pub struct Lexeme {
 }
 
 // The strength of a binary operator, from the weakest.
-#[derive(Clone, Copy)]
+#[derive(Clone, Copy, PartialEq, Eq, Debug)]
 pub enum Strength {
     Lor,
     Xor,
@@ -30,7 +33,7 @@ pub enum Strength {
 }
 
 // What a reserved word opens where a statement may begin.
-#[derive(Clone, Copy)]
+#[derive(Clone, Copy, PartialEq, Eq, Debug)]
 pub enum Opening {
     // BEGIN
     Block,
@@ -44,4 +47,12 @@ pub enum Opening {
     Behind,
     // FOR
     Counted,
+}
+
+impl Lexeme {
+    pub(crate) fn new(sort: Sort, place: usize) -> Lexeme
+        ensures { result ≡ record { sort = sort; place = place } }
+    {
+        Lexeme { sort, place }
+    }
 }

@@ -10,9 +10,9 @@ pub begun-returns-in-Some : goal.begun-returns-in-Some
 unfolding stated
 begun-returns-in-Some t c = search rules
 
-pub begun-returns-in_default-opening_of : goal.begun-returns-in_default-opening_of
+pub begun-returns-in_default-opening : goal.begun-returns-in_default-opening
 unfolding stated
-begun-returns-in_default-opening_of t c = search rules
+begun-returns-in_default-opening t c = search rules
 
 pub begun-returns-then-levels-eq0 : goal.begun-returns-then-levels-eq0
 unfolding stated
