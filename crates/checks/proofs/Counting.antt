@@ -4,7 +4,7 @@ use Rattle.std.proofs.lemmas.List.{length-map, length-drop}
 use Rattle.syntax.specs.declared.node.Node.{Node}
 use Rattle.syntax.specs.Entries.{Entry, entry_of, entries}
 use Rattle.syntax.specs.Entries as entry
-use Rattle.checks.specs.Stacks.{below}
+use Rattle.words.specs.Stacks.{below}
 use Rattle.checks.specs.Writing.{Counts, first, tallied, counted}
 use Rattle.checks.specs.Emissions.{AtMost, counts}
 use Rattle.checks.proofs.Passes.{one_more, none_left}

@@ -1,14 +1,18 @@
 -- A name more in the table. Assumes nothing.
-use Rattle.std.proofs.Common.{◌≡◌, ℕ, ◌+◌, ◌<◌, ◌≤◌, Bool, true, false, List, [], ◌∷◌, ◌++◌, map, length, get_or, take, set, Some, None, Option, ap, ◌∙◌}
+use Rattle.std.proofs.Common.{◌≡◌, ℕ, ◌+◌, ◌<◌, ◌≤◌, arith, true, false, List, [], ◌∷◌, ◌++◌, map, length, get_or, take, set, Some, None, Ok, Err, Option, unwrap_or, sym, refl, ap, ◌∙◌}
 use Rattle.std.proofs.lemmas.List.{set-set, take_more_set, map_push, get_or-set_same, length-map, length-take-le}
-use Rattle.std.proofs.lemmas.Bool.{lt-ltb, le-ltb, le-leb, lt-leb}
+use Rattle.std.proofs.lemmas.Bool.{lt-ltb, le-ltb}
 use Rattle.text.specs.declared.token.Kind.{Kind}
 use Rattle.checks.specs.declared.entry.Sort.{Sort}
+use Rattle.checks.specs.declared.entry.Sort.TheVariants as sort
+use Rattle.checks.specs.contracts.entry.Sort.{the_type}
+use denote.Enum.Bare.{sameb}
 use Rattle.checks.specs.declared.entry.NameEntry.{NameEntry}
-use Rattle.checks.specs.Faults.{at}
-use Rattle.checks.specs.Tables.{Row, Table, look, row_of, extended, declare}
+use Rattle.std.specs.Option.{option_map, is_some, ok_or}
+use Rattle.checks.specs.declared.fault.CheckFault.{CheckFault}
+use Rattle.checks.specs.Faults.{at, unless, refusal_of}
+use Rattle.checks.specs.Tables.{Row, Table, look, nothing, found, is_known, extended, declare}
 use Rattle.checks.specs.Names.{entering, used, is_sort}
-use Rattle.checks.specs.Sizes.{cells_at}
 use Rattle.checks.specs.Entered.{row_as, completed}
 
 -- the entry x is written, and completed to e
@@ -22,42 +26,45 @@ table_of rows rows' n n' e f = rw (e, f)
 
 -- what becomes of a declaration: the name is known, the table is full, or there is room
 module _ (t : Table) (n : List ℕ) (k : Kind) (s : Sort) (c p : ℕ) where
-  pub known : (r : Row) → Some r ≡ look t.rows n → (Some (at 8 p) ≡ entering t n p) × (t ≡ declare t n k s c)
+  pub known : is_known (look t.rows n) ≡ true → (Some (at 8 p) ≡ entering t n p) × (t ≡ declare t n k s c)
   unfolding entering declare
-  known r e = (rw (← e), rw (← e))
+  known e = (rw e, rw e)
 
-  pub full : None ≡ look t.rows n → 64 ≤ length t.rows → (Some (at 9 p) ≡ entering t n p) × (t ≡ declare t n k s c)
+  pub full : is_known (look t.rows n) ≡ false → 64 ≤ length t.rows → (Some (at 9 p) ≡ entering t n p) × (t ≡ declare t n k s c)
   unfolding entering declare
-  full e l = (rw (← e, le-ltb (length t.rows) 64 l), rw (← e, le-ltb (length t.rows) 64 l))
+  full e l = (rw (e, le-ltb (length t.rows) 64 l), rw (e, le-ltb (length t.rows) 64 l))
 
-  pub room : None ≡ look t.rows n → length t.rows < 64 → (None ≡ entering t n p) × (extended t n k s c ≡ declare t n k s c)
+  pub room : is_known (look t.rows n) ≡ false → length t.rows < 64 → (None ≡ entering t n p) × (extended t n k s c ≡ declare t n k s c)
   unfolding entering declare
-  room e l = (rw (← e, lt-ltb (length t.rows) 64 l), rw (← e, lt-ltb (length t.rows) 64 l))
+  room e l = (rw (e, lt-ltb (length t.rows) 64 l), rw (e, lt-ltb (length t.rows) 64 l))
 
 -- the rows are as many as the count says
 pub rows_count : (n : ℕ) (es : List NameEntry) → n ≤ length es → length (map row_as (take n es)) ≡ n
 rows_count n es l = length-map (take n es) row_as ∙ length-take-le n es l
 
--- what becomes of a use
+-- what is found by a search, told as a row
+pub known_some : (o : Option NameEntry) (x : Option Row) → option_map row_as o ≡ x → is_known x ≡ is_some o
+known_some None x e = ap is_known (sym e)
+known_some (Some r) x e = ap is_known (sym e)
+
+pub row_found : (o : Option NameEntry) (d : NameEntry) (x : Option Row) → row_as d ≡ nothing → option_map row_as o ≡ x → row_as (unwrap_or o d) ≡ found x
+row_found None d x z e = z ∙ ap found e
+row_found (Some r) d x z e = ap found e
+
+pub same_sort : (a b : Sort) → sameb the_type a b ≡ is_sort b a
+same_sort sort.Simple sort.Simple = refl
+same_sort sort.Simple sort.Array = refl
+same_sort sort.Array sort.Simple = refl
+same_sort sort.Array sort.Array = refl
+
+-- what becomes of a use: the name is unknown, or its entry is judged
 module _ (t : Table) (n : List ℕ) (s : Sort) (p : ℕ) where
-  pub unknown : None ≡ look t.rows n → Some (at 7 p) ≡ used t n s p
+  pub unknown : (o : Option NameEntry) (u v : CheckFault) → option_map row_as o ≡ look t.rows n → refusal_of u ≡ at 7 p → ok_or o u ≡ Err v → Some (refusal_of v) ≡ used t n s p
   unfolding used
-  unknown e = rw (← e)
+  unknown None u v i h e = let f : u ≡ v = cc in rw (← i) (ap (λ w. Some (refusal_of w)) (sym f) ∙ ap Some h)
+  unknown (Some r) u v i h e = absurd (let z : ◌≡◌ {A = ℕ} 0 1 = cc in omega arith)
 
-  pub fit : (r : Row) (b : Bool) → Some r ≡ look t.rows n → b ≡ is_sort s r.sort → b ≡ true → None ≡ used t n s p
+  pub judged : (o : Option NameEntry) (u : CheckFault) (r : NameEntry) → option_map row_as o ≡ look t.rows n → ok_or o u ≡ Ok r → unless (is_sort s r.sort) 10 p ≡ used t n s p
   unfolding used
-  fit r b e i h = rw (← e, ← i, h)
-
-  pub unfit : (r : Row) (b : Bool) → Some r ≡ look t.rows n → b ≡ is_sort s r.sort → b ≡ false → Some (at 10 p) ≡ used t n s p
-  unfolding used
-  unfit r b e i h = rw (← e, ← i, h)
-
--- whether the cells of a name go past 4,096
-module _ (t : Table) (n : List ℕ) (r : Row) (p : ℕ) (is : r ≡ row_of t n) where
-  pub within : r.cell + r.cells ≤ 4096 → None ≡ cells_at t n p
-  unfolding cells_at
-  within h = rw (← is, le-leb (r.cell + r.cells) 4096 h)
-
-  pub beyond : 4096 < r.cell + r.cells → Some (at 13 p) ≡ cells_at t n p
-  unfolding cells_at
-  beyond h = rw (← is, lt-leb (r.cell + r.cells) 4096 h)
+  judged None u r i e = absurd (let z : ◌≡◌ {A = ℕ} 0 1 = cc in omega arith)
+  judged (Some q) u r i e = let f : q ≡ r = cc in rw (← i, f)

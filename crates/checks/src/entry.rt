@@ -8,7 +8,7 @@ use text::search::Named;
 use text::token::Kind;
 
 // What a name stands for. Other sorts may join these two.
-#[derive(Clone, Copy)]
+#[derive(Clone, Copy, PartialEq, Eq, Debug)]
 pub enum Sort {
     Simple,
     Array,

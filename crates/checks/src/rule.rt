@@ -4,7 +4,7 @@ ghost use Rattle.text.specs.Names.{name_of};
 ghost use Rattle.syntax.specs.Entries.{entry_of};
 ghost use Rattle.checks.specs.Tables.{row_of};
 ghost use Rattle.checks.specs.Tabled.{table_as};
-ghost use Rattle.checks.specs.Types.{is_kind, joined as joined_of, takes_kind, agree as agree_of, rule_of};
+ghost use Rattle.checks.specs.Types.{joined as joined_of, takes_kind, agree as agree_of, rule_of};
 
 use crate::table::NameTable;
 use syntax::node::{Node, Operator};
@@ -31,15 +31,6 @@ pub enum Rule {
     Starts(Kind, usize),
 }
 
-pub(crate) fn is_kind(want: Kind, kind: Kind) -> bool
-    ensures { result ≡ is_kind want kind }
-{
-    match (want, kind) {
-        (Kind::Integer, Kind::Integer) | (Kind::Logical, Kind::Logical) => true,
-        _ => false,
-    }
-}
-
 // A relation is LOGICAL; any other operator has the type of its left side.
 pub(crate) fn joined(operator: Operator, left: Kind) -> Kind
     ensures { result ≡ joined_of operator left }
@@ -60,7 +51,7 @@ fn takes_kind(operator: Operator, kind: Kind) -> bool
     ensures { result ≡ takes_kind operator kind }
 {
     match operator {
-        Operator::Land | Operator::Xor | Operator::Lor => is_kind(Kind::Logical, kind),
+        Operator::Land | Operator::Xor | Operator::Lor => kind == Kind::Logical,
         _ => true,
     }
 }
@@ -68,7 +59,7 @@ fn takes_kind(operator: Operator, kind: Kind) -> bool
 pub(crate) fn agree(operator: Operator, left: Kind, right: Kind) -> bool
     ensures { result ≡ agree_of operator left right }
 {
-    is_kind(left, right) && takes_kind(operator, left)
+    left == right && takes_kind(operator, left)
 }
 
 fn kind_of(table: &NameTable, name: Name) -> Kind

@@ -1,6 +1,5 @@
 // What the two passes keep.
-use std::error::Error;
-use std::fmt;
+use thiserror::Error;
 use typed::item::Item;
 
 // The items that the longest source gives are no more.
@@ -33,20 +32,11 @@ pub struct Figures {
     pub depth: u16,
 }
 
-// Why there is no code: more items than the longest source gives; more instructions than there may be.
-#[derive(Clone, Copy, PartialEq, Eq, Debug)]
+// Why there is no code.
+#[derive(Clone, Copy, PartialEq, Eq, Debug, Error)]
 pub enum Excess {
+    #[error("there are more items than the longest source gives")]
     Items,
+    #[error("the code has too many instructions")]
     Room,
 }
-
-impl fmt::Display for Excess {
-    fn fmt<W: fmt::Write>(&self, f: &mut fmt::Formatter<W>) -> fmt::Result {
-        f.write_str(match self {
-            Excess::Items => "the list has more items than a source gives",
-            Excess::Room => "the code has too many instructions",
-        })
-    }
-}
-
-impl Error for Excess {}

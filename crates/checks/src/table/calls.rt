@@ -2,7 +2,7 @@
 ghost use Rattle.std.specs.Prelude.{◌≡◌, ◌<◌, map, length};
 ghost use Rattle.std.specs.Option.{option_map};
 ghost use Rattle.text.specs.Names.{name_of};
-ghost use Rattle.checks.specs.Faults.{refusal_of};
+ghost use Rattle.checks.specs.Faults.{refusal_of, fault_in};
 ghost use Rattle.checks.specs.Tables.{empty, look, row_of, extended, declare as declare_in};
 ghost use Rattle.checks.specs.Names.{entering, used as used_in};
 ghost use Rattle.checks.specs.Sizes.{cells_at};
@@ -10,9 +10,8 @@ ghost use Rattle.checks.specs.Entered.{row_as, cells_of, sort_of};
 ghost use Rattle.checks.specs.Tabled.{table_as};
 
 use crate::entry::{NameEntry, Sort, complete};
-use crate::fault::CheckFault;
+use crate::fault::{CheckFault, answer, unless};
 use crate::table::NameTable;
-use crate::view::is_sort;
 use text::name::Name;
 use text::search::{Named, find};
 use text::token::Kind;
@@ -47,7 +46,7 @@ impl NameTable {
         ensures count { result ≡ self.now.count }
         ensures rows { result ≡ length (table_as self.now).rows }
     {
-        self.entries[0..self.count].len()
+        self.count
     }
 
     // How many cells the names take.
@@ -61,10 +60,8 @@ impl NameTable {
     pub fn get(&self, name: &Name) -> Option<NameEntry>
         ensures { option_map row_as result ≡ look (table_as self.now).rows (name_of name.now) }
     {
-        match find(&self.entries[0..self.count], name.name()) {
-            Some(i) => Some(self.entries[i]),
-            None => None,
-        }
+        let i = find(&self.entries[0..self.count], name.name())?;
+        Some(self.entries[i])
     }
 }
 
@@ -73,10 +70,7 @@ impl NameTable {
     pub(crate) fn entry(&self, name: &Name) -> NameEntry
         ensures { row_as result ≡ row_of (table_as self.now) (name_of name.now) }
     {
-        match self.get(name) {
-            Some(e) => e,
-            None => NameEntry::NOTHING,
-        }
+        self.get(name).unwrap_or(NameEntry::NOTHING)
     }
 
     // A name more, which takes the next cells: the entry of an array is completed in its place.
@@ -104,32 +98,26 @@ impl NameTable {
         kind: Kind,
         high: Option<u16>,
         place: usize,
-    ) -> Option<CheckFault>
-        ensures fault { option_map refusal_of result ≡ entering (table_as self.old) (name_of name) place }
+    ) -> Result<(), CheckFault>
+        ensures fault { fault_in result ≡ entering (table_as self.old) (name_of name) place }
         ensures table { table_as self.new ≡ declare_in (table_as self.old) (name_of name) kind (sort_of high) (cells_of high) }
     {
-        if let Some(_known) = self.get(&name) {
-            return Some(CheckFault::DeclaredTwice(place));
+        if self.get(&name).is_some() {
+            return Err(CheckFault::DeclaredTwice(place));
         }
         if self.len() >= 64 {
-            return Some(CheckFault::TooManyNames(place));
+            return Err(CheckFault::TooManyNames(place));
         }
         self.enter(name, kind, high);
-        None
+        Ok(())
     }
 
     // Uses a name: the search answers an Option, and here it becomes 7; 10 if a subscript is missing or unwanted.
-    pub(crate) fn judge(&self, name: Name, sort: Sort, place: usize) -> Option<CheckFault>
-        ensures { option_map refusal_of result ≡ used_in (table_as self.now) (name_of name) sort place }
+    pub(crate) fn judge(&self, name: Name, sort: Sort, place: usize) -> Result<(), CheckFault>
+        ensures { fault_in result ≡ used_in (table_as self.now) (name_of name) sort place }
     {
-        match self.get(&name) {
-            None => Some(CheckFault::Undeclared(place)),
-            Some(e) => if is_sort(sort, e.sort) {
-                None
-            } else {
-                Some(CheckFault::Subscript(place))
-            },
-        }
+        let entry = self.get(&name).ok_or(CheckFault::Undeclared(place))?;
+        answer(unless(entry.sort == sort, CheckFault::Subscript(place)))
     }
 
     // Whether the cells of a name go past 4,096.
@@ -137,10 +125,9 @@ impl NameTable {
         ensures { option_map refusal_of result ≡ cells_at (table_as self.now) (name_of name) place }
     {
         let e = self.entry(&name);
-        if e.cell as u64 + e.cells as u64 <= 4096 {
-            None
-        } else {
-            Some(CheckFault::TooManyCells(place))
-        }
+        unless(
+            e.cell as u64 + e.cells as u64 <= 4096,
+            CheckFault::TooManyCells(place),
+        )
     }
 }
