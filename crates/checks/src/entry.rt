@@ -43,6 +43,19 @@ impl NameEntry {
     };
 }
 
+// A table that is not full holds it where no name was entered yet.
+impl Default for NameEntry {
+    ghost use Rattle.std.specs.Prelude.{◌≡◌};
+    ghost use Rattle.checks.specs.Tables.{nothing};
+    ghost use Rattle.checks.specs.Entered.{row_as};
+
+    ghost is_default = { λ e. row_as e ≡ nothing };
+
+    fn default() -> NameEntry {
+        NameEntry::NOTHING
+    }
+}
+
 // Completes the entry of a name whose high bound was read, if it has one, and answers how many cells it takes.
 pub(crate) fn complete(entry: &mut NameEntry, high: Option<u16>) -> u32
     ensures row { row_as entry.new ≡ completed (row_as entry.old) high }

@@ -1,6 +1,7 @@
 // The table is made, filled and searched.
-ghost use Rattle.std.specs.Prelude.{◌≡◌, ◌<◌, map, length};
+ghost use Rattle.std.specs.Prelude.{◌≡◌, ◌<◌, map};
 ghost use Rattle.std.specs.Option.{option_map};
+ghost use Rattle.arrayvec.specs.ArrayVec.{array_vec_len};
 ghost use Rattle.text.specs.Names.{name_of};
 ghost use Rattle.checks.specs.Faults.{refusal_of, fault_in};
 ghost use Rattle.checks.specs.Tables.{empty, look, row_of, extended, declare as declare_in};
@@ -12,6 +13,7 @@ ghost use Rattle.checks.specs.Tabled.{table_as};
 use crate::entry::{NameEntry, Sort, complete};
 use crate::fault::{CheckFault, answer, unless};
 use crate::table::NameTable;
+use arrayvec::ArrayVec;
 use text::name::Name;
 use text::search::{Named, find};
 use text::token::Kind;
@@ -21,8 +23,7 @@ impl NameTable {
         ensures { table_as result ≡ empty }
     {
         NameTable {
-            entries: [NameEntry::NOTHING; 64],
-            count: 0,
+            entries: ArrayVec::new(),
             cells: 0,
         }
     }
@@ -30,7 +31,7 @@ impl NameTable {
     pub(crate) fn clear(&mut self)
         ensures { table_as self.new ≡ empty }
     {
-        self.count = 0;
+        self.entries.clear();
         self.cells = 0;
     }
 
@@ -38,15 +39,7 @@ impl NameTable {
     pub fn entries(&self) -> &[NameEntry]
         ensures { map row_as result.now ≡ (table_as self.now).rows }
     {
-        &self.entries[0..self.count]
-    }
-
-    // How many names are declared.
-    fn len(&self) -> usize
-        ensures count { result ≡ self.now.count }
-        ensures rows { result ≡ length (table_as self.now).rows }
-    {
-        self.count
+        self.entries.as_slice()
     }
 
     // How many cells the names take.
@@ -60,8 +53,9 @@ impl NameTable {
     pub fn get(&self, name: &Name) -> Option<NameEntry>
         ensures { option_map row_as result ≡ look (table_as self.now).rows (name_of name.now) }
     {
-        let i = find(&self.entries[0..self.count], name.name())?;
-        Some(self.entries[i])
+        let entries = self.entries.as_slice();
+        let i = find(entries, name.name())?;
+        Some(entries[i])
     }
 }
 
@@ -75,20 +69,18 @@ impl NameTable {
 
     // A name more, which takes the next cells: the entry of an array is completed in its place.
     fn enter(&mut self, name: Name, kind: Kind, high: Option<u16>)
-        requires { self.old.count < 64 }
+        requires { array_vec_len self.old.entries < 64 }
         ensures { table_as self.new ≡ extended (table_as self.old) (name_of name) kind (sort_of high) (cells_of high) }
     {
-        let i = self.count;
-        self.entries[i] = NameEntry {
+        let i = self.entries.len();
+        self.entries.push(NameEntry {
             name,
             kind,
             sort: Sort::Simple,
             cell: self.cells,
             cells: 0,
-        };
-        let cells = complete(&mut self.entries[i], high);
-        self.count += 1;
-        self.cells += cells;
+        });
+        self.cells += complete(&mut self.entries[i], high);
     }
 
     // Declares a name: 8 if it is known, 9 if it is the 65th, else it is entered.
@@ -105,7 +97,7 @@ impl NameTable {
         if self.get(&name).is_some() {
             return Err(CheckFault::DeclaredTwice(place));
         }
-        if self.len() >= 64 {
+        if self.entries.is_full() {
             return Err(CheckFault::TooManyNames(place));
         }
         self.enter(name, kind, high);
