@@ -14,7 +14,7 @@ pub enum Sort {
     Array,
 }
 
-// A declared name, which holds its own bytes; its first cell and how many it has.
+// A declared name, which holds its own bytes; its first cell and how many it has. No `PartialEq`: a name has none.
 #[derive(Clone, Copy)]
 pub struct NameEntry {
     pub(crate) name: Name,

@@ -18,10 +18,9 @@ fn name_fault(table: &mut NameTable, node: Node) -> Option<CheckFault>
     ensures table { table_as table.new ≡ entered (table_as table.old) (entry_of node) }
 {
     if let Some(d) = declared_by(node) {
-        return table.declare(d.name, d.kind, d.high, d.place).err();
+        return table.declare(d).err();
     }
-    let m = used_by(node)?;
-    table.judge(m.name, m.sort, m.place).err()
+    table.judge(used_by(node)?).err()
 }
 
 // Fills the table; every entry is judged, and the fault that decides is answered.

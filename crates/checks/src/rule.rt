@@ -12,7 +12,7 @@ use text::name::Name;
 use text::token::Kind;
 
 // A `usize` is the place of the fault if the rule is broken.
-#[derive(Clone, Copy)]
+#[derive(Clone, Copy, PartialEq, Eq, Debug)]
 pub enum Rule {
     // leaves the operands as they are
     Idle,

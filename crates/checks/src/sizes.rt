@@ -16,8 +16,7 @@ use syntax::node::Node;
 fn cells_fault(table: &NameTable, node: Node) -> Option<CheckFault>
     ensures { option_map refusal_of result ≡ cells_fault (table_as table.now) (decl_of (entry_of node)) }
 {
-    let d = declared_by(node)?;
-    table.cells_fault(d.name, d.place)
+    table.cells_fault(declared_by(node)?)
 }
 
 // The stage itself: every entry is judged, and the fault that decides is answered.

@@ -13,7 +13,7 @@ use syntax::node::Node;
 use text::name::Name;
 use text::token::Kind;
 
-// A name that is declared, the high bound of an array, and the place of the name.
+// A name that is declared, the high bound of an array, and the place of the name. No `PartialEq`: a name has none.
 #[derive(Clone, Copy)]
 pub struct Declaration {
     pub name: Name,

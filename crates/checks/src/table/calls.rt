@@ -13,10 +13,10 @@ ghost use Rattle.checks.specs.Tabled.{table_as};
 use crate::entry::{NameEntry, Sort, complete};
 use crate::fault::{CheckFault, answer, unless};
 use crate::table::NameTable;
+use crate::view::{Declaration, Mention};
 use arrayvec::ArrayVec;
 use text::name::Name;
 use text::search::{Named, find};
-use text::token::Kind;
 
 impl NameTable {
     pub(crate) fn new() -> NameTable
@@ -68,58 +68,55 @@ impl NameTable {
     }
 
     // A name more, which takes the next cells: the entry of an array is completed in its place.
-    fn enter(&mut self, name: Name, kind: Kind, high: Option<u16>)
+    fn enter(&mut self, d: Declaration)
         requires { array_vec_len self.old.entries < 64 }
-        ensures { table_as self.new ≡ extended (table_as self.old) (name_of name) kind (sort_of high) (cells_of high) }
+        ensures { table_as self.new ≡ extended (table_as self.old) (name_of d.name) d.kind (sort_of d.high) (cells_of d.high) }
     {
         let i = self.entries.len();
         self.entries.push(NameEntry {
-            name,
-            kind,
+            name: d.name,
+            kind: d.kind,
             sort: Sort::Simple,
             cell: self.cells,
             cells: 0,
         });
-        self.cells += complete(&mut self.entries[i], high);
+        self.cells += complete(&mut self.entries[i], d.high);
     }
 
     // Declares a name: 8 if it is known, 9 if it is the 65th, else it is entered.
-    pub(crate) fn declare(
-        &mut self,
-        name: Name,
-        kind: Kind,
-        high: Option<u16>,
-        place: usize,
-    ) -> Result<(), CheckFault>
-        ensures fault { fault_in result ≡ entering (table_as self.old) (name_of name) place }
-        ensures table { table_as self.new ≡ declare_in (table_as self.old) (name_of name) kind (sort_of high) (cells_of high) }
+    pub(crate) fn declare(&mut self, d: Declaration) -> Result<(), CheckFault>
+        ensures fault { fault_in result ≡ entering (table_as self.old) (name_of d.name) d.place }
+        ensures table { table_as self.new ≡ declare_in (table_as self.old) (name_of d.name) d.kind (sort_of d.high) (cells_of d.high) }
     {
-        if self.get(&name).is_some() {
-            return Err(CheckFault::DeclaredTwice(place));
+        if self.get(&d.name).is_some() {
+            return Err(CheckFault::DeclaredTwice(d.place));
         }
         if self.entries.is_full() {
-            return Err(CheckFault::TooManyNames(place));
+            return Err(CheckFault::TooManyNames(d.place));
         }
-        self.enter(name, kind, high);
+        self.enter(d);
         Ok(())
     }
 
     // Uses a name: the search answers an Option, and here it becomes 7; 10 if a subscript is missing or unwanted.
-    pub(crate) fn judge(&self, name: Name, sort: Sort, place: usize) -> Result<(), CheckFault>
-        ensures { fault_in result ≡ used_in (table_as self.now) (name_of name) sort place }
+    pub(crate) fn judge(&self, m: Mention) -> Result<(), CheckFault>
+        ensures { fault_in result ≡ used_in (table_as self.now) (name_of m.name) m.sort m.place }
     {
-        let entry = self.get(&name).ok_or(CheckFault::Undeclared(place))?;
-        answer(unless(entry.sort == sort, CheckFault::Subscript(place)))
+        let entry = self.get(&m.name).ok_or(CheckFault::Undeclared(m.place))?;
+        answer(unless(
+            entry.sort == m.sort,
+            CheckFault::Subscript(m.place),
+        ))
     }
 
-    // Whether the cells of a name go past 4,096.
-    pub(crate) fn cells_fault(&self, name: Name, place: usize) -> Option<CheckFault>
-        ensures { option_map refusal_of result ≡ cells_at (table_as self.now) (name_of name) place }
+    // Whether the cells of a declared name go past 4,096.
+    pub(crate) fn cells_fault(&self, d: Declaration) -> Option<CheckFault>
+        ensures { option_map refusal_of result ≡ cells_at (table_as self.now) (name_of d.name) d.place }
     {
-        let e = self.entry(&name);
+        let e = self.entry(&d.name);
         unless(
             e.cell as u64 + e.cells as u64 <= 4096,
-            CheckFault::TooManyCells(place),
+            CheckFault::TooManyCells(d.place),
         )
     }
 }
