@@ -5,9 +5,6 @@ use Rattle.checks.specs.Tabled.{table_as}
 use Rattle.checks.proofs.Passes.{names_more, names_all}
 use Rattle.checks.proofs.names.names.Goals as goal
 
-pub loop-n-init : goal.loop-n-init
-loop-n-init c = rw c.clear.ensures (refl, refl)
-
 pub loop-n-preserved : goal.loop-n-preserved
 loop-n-preserved c =
     names_more c.args.nodes.now c.loop-n.n-index (option_map refusal_of c.loop-n.best) (table_as c.loop-n.table) _ _ c.loop-n.invariant _ _ _ _

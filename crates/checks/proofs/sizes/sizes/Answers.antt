@@ -5,9 +5,6 @@ use Rattle.checks.specs.Tabled.{table_as}
 use Rattle.checks.proofs.Passes.{sizes_more, sizes_all}
 use Rattle.checks.proofs.sizes.sizes.Goals as goal
 
-pub loop-n-init : goal.loop-n-init
-loop-n-init c = refl
-
 pub loop-n-preserved : goal.loop-n-preserved
 loop-n-preserved c =
     sizes_more c.args.nodes.now c.loop-n.n-index (option_map refusal_of c.loop-n.best) (table_as c.args.table.now) _ c.loop-n.invariant _ _ _ _ _

@@ -5,9 +5,6 @@ use Rattle.checks.specs.Tabled.{table_as}
 use Rattle.checks.proofs.Passes.{types_more, types_all}
 use Rattle.checks.proofs.types.types.Goals as goal
 
-pub loop-n-init : goal.loop-n-init
-loop-n-init c = rw c.clear.ensures (refl, omega arith)
-
 pub loop-n-preserved : goal.loop-n-preserved
 loop-n-preserved c = (
   types_more c.args.nodes.now c.loop-n.n-index (option_map refusal_of c.loop-n.best) (table_as c.args.table.now) (reverse c.loop-n.stack) _ c.loop-n.invariant.0 _ _ _ _ _

@@ -4,9 +4,6 @@ use Rattle.checks.specs.Writing.{Counts}
 use Rattle.checks.proofs.Passes.{writes_more, writes_all}
 use Rattle.checks.proofs.write.write.Goals as goal
 
-pub loop-n-init : goal.loop-n-init
-loop-n-init c = rw (c.clear.ensures, c.clear-2.ensures) (refl, omega arith, omega arith)
-
 pub loop-n-preserved : goal.loop-n-preserved
 loop-n-preserved c =
     let l = c.loop-n in (
