@@ -72,8 +72,8 @@ impl Arms {
     {
         self.opened.clear();
         self.closed.clear();
-        for i in (0..nodes.len()).rev() {
-            self.tally(nodes[i]);
+        for n in nodes.iter().rev() {
+            self.tally(*n);
         }
     }
 

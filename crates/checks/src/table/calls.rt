@@ -103,10 +103,7 @@ impl NameTable {
         ensures { fault_in result ≡ used_in (table_as self.now) (name_of m.name) m.sort m.place }
     {
         let entry = self.get(&m.name).ok_or(CheckFault::Undeclared(m.place))?;
-        answer(unless(
-            entry.sort == m.sort,
-            CheckFault::Subscript(m.place),
-        ))
+        answer(unless(entry.sort == m.sort, CheckFault::Subscript(m.place)))
     }
 
     // Whether the cells of a declared name go past 4,096.

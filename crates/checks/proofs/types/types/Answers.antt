@@ -1,4 +1,4 @@
-use Rattle.std.proofs.Common.{reverse, refl, ◌∙◌, arith}
+use Rattle.std.proofs.Common.{reverse, ◌∙◌, arith}
 use Rattle.std.specs.Option.{option_map}
 use Rattle.checks.specs.Faults.{refusal_of}
 use Rattle.checks.specs.Tabled.{table_as}

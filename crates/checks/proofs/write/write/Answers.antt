@@ -1,4 +1,4 @@
-use Rattle.std.proofs.Common.{reverse, refl, ap, arith}
+use Rattle.std.proofs.Common.{reverse, ap, arith}
 use Rattle.checks.specs.Tabled.{table_as}
 use Rattle.checks.specs.Writing.{Counts}
 use Rattle.checks.proofs.Passes.{writes_more, writes_all}

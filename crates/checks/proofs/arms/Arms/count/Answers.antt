@@ -1,22 +1,29 @@
-use Rattle.std.proofs.Common.{◌≡◌, ◌+◌, ◌-◌, ◌<◌, length, ap, arith}
-use Rattle.checks.specs.Writing.{Counts}
+use Rattle.std.proofs.Common.{[], ◌∷◌, length, drop, ap, ◌∙◌, sym, arith, length-append}
+use Rattle.std.proofs.lemmas.List.{drop_all, append-nil, length-drop}
+use Rattle.std.specs.Slice.Iter.{iter_rest}
+use Rattle.std.specs.Iterator.Adapters.{rev_source}
+use Rattle.syntax.specs.Entries.{entries}
+use Rattle.checks.specs.Writing.{Counts, counted}
 use Rattle.checks.proofs.Counting.{first_counted, counted_more, counted_none}
 use Rattle.checks.proofs.arms.Arms.count.Goals as goal
 
-pub loop-i-init : goal.loop-i-init
-loop-i-init c = rw (c.clear.ensures, c.clear-2.ensures) (counted_none c.args.nodes.now (length c.args.nodes.now) (omega arith), omega arith, omega arith)
+pub loop-n-init : goal.loop-n-init
+loop-n-init c =
+    let ns = c.args.nodes.now in
+    let e = ap (λ i. iter_rest (rev_source i)) c.into_iter-n-iterator.ensures.into_iter_gives ∙ ap iter_rest c.rev-n-items.ensures.source ∙ c.iter.ensures.rest in
+    rw (e, drop_all (length ns) ns (omega arith), c.clear.ensures, c.clear-2.ensures) (tt, tt, sym (append-nil ns), counted_none, omega arith, omega arith)
 
 pub tally-requires-clause-few : goal.tally-requires-clause-few
 tally-requires-clause-few c =
-    omega (arith, first_counted c.args.nodes.now c.loop-i.i c.loop-i.self.opened (ap (λ (x : Counts). x.opened) c.loop-i.invariant.0), c.requires, c.loop-i.invariant.1)
+    let rest = iter_rest (rev_source c.loop-n.n-iterator) in
+    omega (arith, first_counted (drop (length rest) c.args.nodes.now) c.loop-n.self.opened (ap (λ (x : Counts). x.opened) c.loop-n.invariant.3), length-drop (length rest) c.args.nodes.now, ap length c.in-Some.ensures.steps, length-append (iter_rest (rev_source c.next.new.self)) (c.in-Some.n.now ∷ []), c.requires)
 
-pub loop-i-preserved : goal.loop-i-preserved
-loop-i-preserved c =
-    let i = c.loop-i.i in
-    let ns = c.args.nodes.now in
-    let l : i - 1 < length ns = omega (arith, c.loop-i.invariant.1) in
-    let e : i ≡ i - 1 + 1 = omega arith in (
-      counted_more ns i (i - 1) _ c.loop-i.self _ l e c.loop-i.invariant.0 c.tally.ensures.counts,
-      omega (arith, c.tally.ensures.opened, c.loop-i.invariant.1),
-      omega (arith, c.tally.ensures.closed, c.loop-i.invariant.2),
-    )
+pub loop-n-preserved : goal.loop-n-preserved
+loop-n-preserved c =
+    let s = c.in-Some.ensures.steps in
+    let p = counted_more c.args.nodes.now (iter_rest (rev_source c.loop-n.n-iterator)) (iter_rest (rev_source c.next.new.self)) c.in-Some.n.now c.loop-n.self c.tally.new.self c.loop-n.invariant.2 s c.loop-n.invariant.3 c.tally.ensures.counts in
+    let l = length-append (iter_rest (rev_source c.next.new.self)) (c.in-Some.n.now ∷ []) in
+    (tt, tt, p.0, p.1, omega (arith, ap length s, l, c.tally.ensures.opened, c.loop-n.invariant.4), omega (arith, ap length s, l, c.tally.ensures.closed, c.loop-n.invariant.5))
+
+pub returns : goal.returns
+returns c = c.loop-n.invariant.3 ∙ ap (λ k. counted (entries (drop k c.args.nodes.now))) c.in-None.ensures.steps.0
