@@ -38,11 +38,3 @@ impl From<GrammarFault> for Refusal {
         }
     }
 }
-
-impl GrammarFault {
-    pub fn refusal(&self) -> Refusal
-        ensures { result ≡ refusal_of self.now }
-    {
-        Refusal::from(*self)
-    }
-}
