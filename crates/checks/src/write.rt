@@ -32,7 +32,8 @@ fn append(out: &mut Reserved<Item, ITEMS>, emission: Emission)
     }
 }
 
-// The typed list of nodes that passed every stage and whose arms are counted.
+// The typed list of nodes that passed every stage and whose arms are counted. What is lent here are parts of one
+// workspace, of which the nodes borrow another: so they are no one struct.
 pub(crate) fn write(
     nodes: &[Node],
     table: &NameTable,

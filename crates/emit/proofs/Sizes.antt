@@ -126,16 +126,6 @@ height_is i h n t l e x y =
 pub height_none : (i : Instr) (h : ℕ) → slice_get ops i.number ≡ None → h ≡ height i h
 height_none i h e = let p = number_past i.number i.a e in rw (p.0, p.1, p.2)
 
-pub twice : (h : ℕ) → h - 2 + 2 ≡ up 2 (down 2 h)
-twice h = omega (arith, up_sum 2 (down 2 h), down_sub 2 h)
-
-pub once : (h : ℕ) → h - 1 ≡ down 1 h
-once h = sym (down_sub 1 h)
-
-pub deepest_above : (ns : List Item) (h : ℕ) → h ≤ deepest ns h
-deepest_above [] h = omega arith
-deepest_above (n ∷ ns) h = omega arith
-
 module _ (ns : List Item) (i : ℕ) (d : Item) (h : i < length ns) where
   pub deepest_more : (k m : ℕ) → m ≡ stacked (get_or ns i d) k → deepest (drop i ns) k ≡ max k (deepest (drop (i + 1) ns) m)
   deepest_more k m e = ap (λ l. deepest l k) (drop_more ns i d h) ∙ ap (λ (j : ℕ). max k (deepest (drop (i + 1) ns) j)) (sym e)
