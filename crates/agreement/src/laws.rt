@@ -5,22 +5,16 @@ ghost use Rattle.agreement.specs.Sessions.{Kept};
 
 // On the code of a source whose cells are all there, with a stack of its depth, the machine makes the source's writes
 // in their order, ends as the source ends and never otherwise, and ends whenever the source does.
-pub fn agreement_stands() -> u8
+pub fn agreement_stands()
     ensures { Agreement }
-{
-    0
-}
+{}
 
 // After every list of calls on the code of a source: cells, writes, ending, height and steps are those of the source.
-pub fn sessions_keep_step() -> u8
+pub fn sessions_keep_step()
     ensures { Kept }
-{
-    0
-}
+{}
 
 // Two sources on the machine, step by step and in a session, and the theorem at one of them.
-pub fn examples_stand() -> u8
+pub fn examples_stand()
     ensures { Examples }
-{
-    0
-}
+{}

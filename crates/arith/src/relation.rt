@@ -4,8 +4,7 @@ ghost use Rattle.arith.specs.Relations.{relation_number, relation_at, holds as h
 
 use super::integer::value;
 use super::logical::truth;
-use std::error::Error;
-use std::fmt;
+use thiserror::Error;
 
 #[derive(Clone, Copy, PartialEq, Eq, Debug)]
 pub enum Relation {
@@ -26,7 +25,8 @@ impl From<Relation> for u16 {
 }
 
 // A number that no relation has: they end at 5.
-#[derive(Clone, Copy, PartialEq, Eq, Debug)]
+#[derive(Clone, Copy, PartialEq, Eq, Debug, Error)]
+#[error("there is no relation {0}")]
 pub struct UnknownRelation(pub u16);
 
 impl TryFrom<u16> for Relation {
@@ -46,14 +46,6 @@ impl TryFrom<u16> for Relation {
         }
     }
 }
-
-impl fmt::Display for UnknownRelation {
-    fn fmt<W: fmt::Write>(&self, f: &mut fmt::Formatter<W>) -> fmt::Result {
-        write!(f, "there is no relation {}", self.0)
-    }
-}
-
-impl Error for UnknownRelation {}
 
 impl Relation {
     // Whether it holds, where it is known whether the left is less, and whether both are the same.

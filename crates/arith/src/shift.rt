@@ -2,8 +2,7 @@
 ghost use Rattle.std.specs.Prelude.{◌≡◌, ◌<◌, ◌≤◌, true, false, MatchOption, MatchResult};
 ghost use Rattle.arith.specs.Shifts.{kind_number, kind_of, is_shift, shifted};
 
-use std::error::Error;
-use std::fmt;
+use thiserror::Error;
 
 #[derive(Clone, Copy, PartialEq, Eq, Debug)]
 pub enum Kind {
@@ -23,7 +22,8 @@ impl From<Kind> for u16 {
 }
 
 // A number that no kind of shift has: they end at 4.
-#[derive(Clone, Copy, PartialEq, Eq, Debug)]
+#[derive(Clone, Copy, PartialEq, Eq, Debug, Error)]
+#[error("there is no shift {0}")]
 pub struct UnknownShift(pub u16);
 
 impl TryFrom<u16> for Kind {
@@ -42,14 +42,6 @@ impl TryFrom<u16> for Kind {
         }
     }
 }
-
-impl fmt::Display for UnknownShift {
-    fn fmt<W: fmt::Write>(&self, f: &mut fmt::Formatter<W>) -> fmt::Result {
-        write!(f, "there is no shift {}", self.0)
-    }
-}
-
-impl Error for UnknownShift {}
 
 // A shift by a count of at most 15.
 #[derive(Clone, Copy)]

@@ -2,14 +2,17 @@
 ghost use Rattle.std.specs.Prelude.{◌≡◌};
 ghost use Rattle.arith.specs.Stops.{number_of};
 
-use std::error::Error;
-use std::fmt;
+use thiserror::Error;
 
-#[derive(Clone, Copy, PartialEq, Eq, Debug)]
+#[derive(Clone, Copy, PartialEq, Eq, Debug, Error)]
 pub enum Stop {
+    #[error("an INTEGER would leave -32768 to 32767")]
     Overflow = 1,
+    #[error("a divisor is 0")]
     ZeroDivisor = 2,
+    #[error("a subscript is outside its array")]
     BadIndex = 3,
+    #[error("the index of a CASE is none of its statements")]
     BadCase = 4,
 }
 
@@ -20,16 +23,3 @@ impl From<Stop> for u8 {
         stop as u8
     }
 }
-
-impl fmt::Display for Stop {
-    fn fmt<W: fmt::Write>(&self, f: &mut fmt::Formatter<W>) -> fmt::Result {
-        f.write_str(match self {
-            Stop::Overflow => "an INTEGER would leave -32768 to 32767",
-            Stop::ZeroDivisor => "a divisor is 0",
-            Stop::BadIndex => "a subscript is outside its array",
-            Stop::BadCase => "the index of a CASE is none of its statements",
-        })
-    }
-}
-
-impl Error for Stop {}

@@ -1,13 +1,13 @@
 -- The arms of a CASE are no more than the entries of the list. Assumes nothing.
-use Rattle.std.proofs.Common.{◌≡◌, ℕ, suc, ◌+◌, ◌-◌, ◌<◌, ◌≤◌, List, [], ◌∷◌, map, length, get_or, drop, sym, ap, ◌∙◌, arith}
-use Rattle.std.proofs.lemmas.List.{length-map, length-drop}
+use Rattle.std.proofs.Common.{◌≡◌, ℕ, suc, ◌≤◌, List, [], ◌∷◌, ◌++◌, map, length, drop, sym, refl, ap, ◌∙◌, append_assoc, arith}
+use Rattle.std.proofs.lemmas.List.{length-map}
+use Rattle.std.proofs.Math.Seq.{drop-append_seam}
 use Rattle.syntax.specs.declared.node.Node.{Node}
 use Rattle.syntax.specs.Entries.{Entry, entry_of, entries}
 use Rattle.syntax.specs.Entries as entry
-use Rattle.checks.specs.Stacks.{below}
+use Rattle.words.specs.Stacks.{below}
 use Rattle.checks.specs.Writing.{Counts, first, tallied, counted}
 use Rattle.checks.specs.Emissions.{AtMost, counts}
-use Rattle.checks.proofs.Passes.{one_more, none_left}
 
 weaker : (k : ℕ) (ns : List ℕ) → AtMost k ns → AtMost (suc k) ns
 weaker k [] h = tt
@@ -65,15 +65,22 @@ most : (es : List Entry) → AtMost (length es) (counted es).opened
 most [] = tt
 most (e ∷ es) = tallied_most e (counted es) (length es) (most es)
 
-pub first_counted : (ns : List Node) (i : ℕ) (o : List ℕ) → o ≡ (counted (entries (drop i ns))).opened → first o ≤ length ns - i
+pub first_counted : (ns : List Node) (o : List ℕ) → o ≡ (counted (entries ns)).opened → first o ≤ length ns
 unfolding entries
-first_counted ns i o e =
-    rw e
-    (omega (arith, first_most (length (map entry_of (drop i ns))) (counted (map entry_of (drop i ns))).opened (most (map entry_of (drop i ns))), length-map (drop i ns) entry_of, length-drop i ns))
+first_counted ns o e = rw e (omega (arith, first_most (length (map entry_of ns)) (counted (map entry_of ns)).opened (most (map entry_of ns)), length-map ns entry_of))
 
--- one entry more, towards the beginning
-pub counted_more : (ns : List Node) (i j : ℕ) (n : Node) (x y : Counts) → j < length ns → i ≡ j + 1 → x ≡ counted (entries (drop i ns)) → y ≡ tallied (entry_of (get_or ns j n)) x → y ≡ counted (entries (drop j ns))
-counted_more ns i j n x y l e f g = g ∙ rw (f, e) (ap counted (sym (one_more ns j n l)))
+-- of the list ns the entries r are left, and the ones behind them are counted; then one more, towards the beginning
+module _ (ns r r' : List Node) (n : Node) (x y : Counts) (h : ns ≡ r ++ drop (length r) ns) (g : r ≡ r' ++ n ∷ []) where
+  split_more : ns ≡ r' ++ n ∷ drop (length r) ns
+  split_more = h ∙ ap (λ l. l ++ drop (length r) ns) g ∙ append_assoc r' (n ∷ []) (drop (length r) ns)
 
-pub counted_none : (ns : List Node) (i : ℕ) → length ns ≤ i → counts [] [] ≡ counted (entries (drop i ns))
-counted_none ns i l = ap counted (sym (none_left ns i l))
+  left_more : drop (length r') ns ≡ n ∷ drop (length r) ns
+  left_more = ap (drop (length r')) split_more ∙ drop-append_seam r' (n ∷ drop (length r) ns)
+
+  pub counted_more : x ≡ counted (entries (drop (length r) ns)) → y ≡ tallied (entry_of n) x → (ns ≡ r' ++ drop (length r') ns) × (y ≡ counted (entries (drop (length r') ns)))
+  unfolding entries
+  counted_more e f = (split_more ∙ ap (λ l. r' ++ l) (sym left_more), f ∙ ap (tallied (entry_of n)) e ∙ ap (λ l. counted (entries l)) (sym left_more))
+
+pub counted_none : counts [] [] ≡ counted (entries [])
+unfolding entries
+counted_none = refl

@@ -10,4 +10,3 @@ pub mod Narrowing
 pub mod Judging
 pub mod Lengths
 pub mod Counting
-pub mod Ends

@@ -1,7 +1,6 @@
 -- A search by name, and what it finds. Assumes nothing.
-use Rattle.std.proofs.Common.{◌≡◌, ℕ, zero, suc, ◌<◌, true, false, List, [], ◌∷◌, map, get_or, take, Some, None, refl, ⊎_elim, arith}
+use Rattle.std.proofs.Common.{◌≡◌, ℕ, zero, suc, true, false, List, [], ◌∷◌, map, get_or, Some, None, refl, ⊎_elim, arith}
 use Rattle.std.proofs.lemmas.Slice.Eq.{bytes_eq-Decides}
-use Rattle.std.proofs.lemmas.List.{get_or-take, length-map, length-take}
 use Rattle.std.proofs.lemmas.Bool.{cases_Bool}
 use Rattle.std.specs.Str.{bytes_eq}
 use Rattle.text.specs.Names.{name_of, First}
@@ -28,13 +27,10 @@ look_none : (es : List NameEntry) (w : List ℕ) → First (map spelled es) w No
 look_none [] w h = refl
 look_none (e ∷ es) w h = rw (other (spelled e) w (h 0 (omega arith))) (look_none es w (λ k l. h (suc k) (omega arith)))
 
--- among the first n entries
-module _ (es : List NameEntry) (n m : ℕ) (v w : List ℕ) (same_count : m ≡ n) (same_name : v ≡ w) where
-  pub get_some : (i : ℕ) (d : NameEntry) → First (map spelled (take m es)) v (Some i) → Some (row_as (get_or es i d)) ≡ look (map row_as (take n es)) w
-  get_some i d h =
-      let l : i < n = omega (arith, simp (length-map, length-take) at h.0) in
-      let f : First (map spelled (take n es)) w (Some i) = rw (← same_count, ← same_name) h in
-      rw (← get_or-take n es i d l) (look_some (take n es) w i d f)
+-- of the entries that were searched, for the name that was sought
+module _ (es : List NameEntry) {fs : List NameEntry} {v w : List ℕ} (same_entries : fs ≡ es) (same_name : v ≡ w) where
+  pub get_some : (i : ℕ) (d : NameEntry) → First (map spelled fs) v (Some i) → Some (row_as (get_or fs i d)) ≡ look (map row_as es) w
+  get_some i d h = rw (← same_entries, ← same_name) (look_some fs v i d h)
 
-  pub get_none : First (map spelled (take m es)) v None → None ≡ look (map row_as (take n es)) w
-  get_none h = look_none (take n es) w (rw (← same_count, ← same_name) h)
+  pub get_none : First (map spelled fs) v None → None ≡ look (map row_as es) w
+  get_none h = rw (← same_entries, ← same_name) (look_none fs v h)

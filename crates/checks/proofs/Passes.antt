@@ -23,9 +23,6 @@ pub none_left : (ns : List Node) (i : ℕ) → length ns ≤ i → entries (drop
 unfolding entries
 none_left ns i l = rw (drop_all i ns l)
 
-pub all_left : (ns : List Node) → entries (drop 0 ns) ≡ entries ns
-all_left ns = refl
-
 -- a fault that is kept if it goes first
 pub kept_first : (f g : Option Refusal) (fs : List Refusal) → least_from f (also g fs) ≡ least_from (soonest f g) fs
 kept_first f None fs = refl

@@ -1,5 +1,5 @@
 -- The number and the place of each refusal, and the one that decides among several of one stage.
-use Rattle.std.specs.Prelude.{ℕ, Bool, cond, ◌&&◌, ◌||◌, List, [], ◌∷◌, Some, None, Option, ◌==◌, nat_lt}
+use Rattle.std.specs.Prelude.{ℕ, Bool, cond, ◌&&◌, ◌||◌, List, [], ◌∷◌, Some, None, Ok, Err, Option, Result, ◌==◌, nat_lt}
 use Rattle.words.specs.declared.refusal.Refusal.{Refusal}
 use Rattle.syntax.specs.Faults.{refusal_of as of_grammar}
 use Rattle.checks.specs.declared.fault.CheckFault.{CheckFault}
@@ -17,6 +17,11 @@ refusal_of (Subscript p) = at 10 p
 refusal_of (Mistyped p) = at 11 p
 refusal_of (OutOfRange p) = at 12 p
 refusal_of (TooManyCells p) = at 13 p
+
+-- the fault in an answer, if it refuses
+abbrev pub fault_in : {A : Type 0} → Result A CheckFault → Option Refusal
+fault_in (Ok x) = None
+fault_in (Err e) = Some (refusal_of e)
 
 -- the smaller place decides, then the lower number
 abbrev pub before : Refusal → Refusal → Bool

@@ -1,5 +1,4 @@
 pub mod Faults
-pub mod Stacks
 pub mod Tables
 pub mod Names
 pub mod Types

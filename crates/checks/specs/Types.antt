@@ -11,7 +11,7 @@ use Rattle.trees.specs.Trees.{Expr, number, load, index, binary, negate, lnot, c
 use Rattle.checks.specs.declared.rule.Rule.{Rule}
 use Rattle.checks.specs.declared.rule.Rule.TheVariants.{Idle, Gives, Joins, Keeps, Takes, Picks, Turns, Starts}
 use Rattle.checks.specs.Faults.{also, unless}
-use Rattle.checks.specs.Stacks.{below}
+use Rattle.words.specs.Stacks.{below}
 use Rattle.checks.specs.Tables.{Table, row_of}
 use Rattle.checks.specs.Names.{program_table}
 

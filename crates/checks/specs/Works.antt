@@ -1,5 +1,5 @@
 -- What becomes of a source, what a workspace holds, and what `check` leaves in it.
-use Rattle.std.specs.Prelude.{◌≡◌, ℕ, List, [], Some, None, Ok, Err, vec_items, Option, Result}
+use Rattle.std.specs.Prelude.{◌≡◌, ℕ, List, [], Some, None, Ok, Err, Option, Result}
 use Rattle.words.specs.declared.refusal.Refusal.{Refusal}
 use Rattle.words.specs.Refusals.{then}
 use Rattle.syntax.specs.Entries.{Entry}
@@ -52,7 +52,7 @@ entries_from (Err f) = []
 
 -- what a workspace holds
 abbrev pub holds : Workspace → Checked
-holds w = record { items = vec_items w.items; table = table_as w.table }
+holds w = record { items = w.items; table = table_as w.table }
 
 abbrev pub nodes_of : Workspace → List Entry
 nodes_of w = list_of w.syntax

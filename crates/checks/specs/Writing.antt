@@ -17,7 +17,7 @@ use Rattle.typed.specs.declared.item.Item.TheVariants as item
 use Rattle.typed.specs.Instrs.{LIT, LOAD, STOR, LDX, STX, CHK, DUP, DROP, DEP}
 use Rattle.typed.specs.Trees as typed
 use Rattle.typed.specs.Lists.{op_instr, uop_instr}
-use Rattle.checks.specs.Stacks.{below}
+use Rattle.words.specs.Stacks.{below}
 use Rattle.checks.specs.Tables.{Table, row_of, empty}
 use Rattle.checks.specs.Names.{table_from, program_table}
 use Rattle.checks.specs.Types.{kind_e, rule_of, after, second}

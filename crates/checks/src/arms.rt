@@ -1,50 +1,95 @@
 // The arms of each CASE are counted, from the end of the list to its beginning.
-ghost use Rattle.std.specs.Prelude.{◌≡◌, ◌+◌, ◌<◌, ◌≤◌, length, vec_len, vec_capacity};
+ghost use Rattle.std.specs.Prelude.{◌≡◌, ◌+◌, ◌<◌, ◌≤◌, length};
 ghost use Rattle.syntax.specs.Entries.{entry_of, entries as entries_of};
-ghost use Rattle.checks.specs.Stacks.{tops};
-ghost use Rattle.checks.specs.Writing.{first, tallied, counted};
-ghost use Rattle.checks.specs.Emissions.{counts};
+ghost use Rattle.words.specs.Stacks.{below};
+ghost use Rattle.checks.specs.Writing.{first, tallied, counted, spent};
 
-use crate::stack::{clear, lower, peek, put};
+use crate::workspace::ENTRIES;
+use std::alloc::{AllocError, Global};
+use std::marker::Model;
 use syntax::node::Node;
+use words::reserved::Reserved;
 
-// One entry: `Esac` begins to count, `Arm` counts one more, `Case` is done.
-fn tally(node: Node, opened: &mut Vec<u16>, closed: &mut Vec<u16>)
-    requires { (first (tops opened.old) < 65535) × ((vec_len opened.old < vec_capacity opened.old) × (vec_len closed.old < vec_capacity closed.old)) }
-    ensures counts { counts (tops opened.new) (tops closed.new) ≡ tallied (entry_of node) (counts (tops opened.old) (tops closed.old)) }
-    ensures opened { vec_len opened.new ≤ vec_len opened.old + 1 }
-    ensures closed { vec_len closed.new ≤ vec_len closed.old + 1 }
-    ensures room { vec_capacity opened.new ≡ vec_capacity opened.old }
-    ensures space { vec_capacity closed.new ≡ vec_capacity closed.old }
-{
-    match node {
-        Node::Case(_) => {
-            let n = peek(opened, 0, 0);
-            lower(opened);
-            put(closed, n);
-        }
-        Node::Arm => {
-            let n = peek(opened, 0, 0);
-            lower(opened);
-            put(opened, n + 1);
-        }
-        Node::Esac => put(opened, 0),
-        _ => {}
-    }
+// Both are stacks: of the CASEs that are still open the innermost is on top, of those that are counted the first one.
+#[derive(Drop)]
+pub(crate) struct Arms {
+    opened: Reserved<u16, ENTRIES>,
+    closed: Reserved<u16, ENTRIES>,
 }
 
-// The numbers of arms, the first CASE's on top.
-pub(crate) fn count_arms(nodes: &[Node], opened: &mut Vec<u16>, closed: &mut Vec<u16>)
-    requires { (length nodes.now ≤ 65535) × ((length nodes.now ≤ vec_capacity opened.old) × (length nodes.now ≤ vec_capacity closed.old)) }
-    ensures closed { tops closed.new ≡ (counted (entries_of nodes.now)).closed }
-    ensures room { vec_capacity opened.new ≡ vec_capacity opened.old }
-    ensures space { vec_capacity closed.new ≡ vec_capacity closed.old }
-{
-    clear(opened);
-    clear(closed);
-    let mut i = nodes.len();
-    while i > 0 {
-        i -= 1;
-        tally(nodes[i], opened, closed);
+impl Model for Arms {
+    ghost use Rattle.std.specs.Prelude.{reverse};
+    ghost use Rattle.checks.specs.Writing.{Counts};
+
+    ghost Value = { Counts };
+
+    ghost view = { λ s. record { opened = reverse s.opened; closed = reverse s.closed } };
+}
+
+impl Arms {
+    pub(crate) fn new(heap: Global) -> Result<Arms, AllocError> {
+        Ok(Arms {
+            opened: Reserved::new(heap)?,
+            closed: Reserved::new(heap)?,
+        })
+    }
+
+    // The arms that the innermost open CASE has so far; it is open no more.
+    fn take(&mut self) -> u16
+        ensures value { result ≡ first self.old.opened }
+        ensures left { self.new ≡ record { opened = below self.old.opened; closed = self.old.closed } }
+    {
+        self.opened.pop().unwrap_or(0)
+    }
+
+    // One entry: `Esac` begins to count, `Arm` counts one more, `Case` is done.
+    fn tally(&mut self, node: Node)
+        requires few { first self.old.opened < 65535 }
+        requires opened { length self.old.opened < 65536 }
+        requires closed { length self.old.closed < 65536 }
+        ensures counts { self.new ≡ tallied (entry_of node) self.old }
+        ensures opened { length self.new.opened ≤ length self.old.opened + 1 }
+        ensures closed { length self.new.closed ≤ length self.old.closed + 1 }
+    {
+        match node {
+            Node::Case(_) => {
+                let n = self.take();
+                self.closed.push(n);
+            }
+            Node::Arm => {
+                let n = self.take();
+                self.opened.push(n + 1);
+            }
+            Node::Esac => self.opened.push(0),
+            _ => {}
+        }
+    }
+
+    // Counts all of a list.
+    pub(crate) fn count(&mut self, nodes: &[Node])
+        requires { length nodes.now ≤ 65535 }
+        ensures { self.new ≡ counted (entries_of nodes.now) }
+    {
+        self.opened.clear();
+        self.closed.clear();
+        for n in nodes.iter().rev() {
+            self.tally(*n);
+        }
+    }
+
+    // The arms of the first CASE that is to come.
+    pub(crate) fn next(&self) -> u16
+        ensures { result ≡ first self.now.closed }
+    {
+        self.closed.peek(0).unwrap_or(0)
+    }
+
+    // A CASE uses up its number of arms.
+    pub(crate) fn spend(&mut self, node: Node)
+        ensures { self.new ≡ record { opened = self.old.opened; closed = spent (entry_of node) self.old.closed } }
+    {
+        if let Node::Case(_) = node {
+            let _ = self.closed.pop();
+        }
     }
 }

@@ -2,8 +2,9 @@
 ghost use Rattle.std.specs.Prelude.{◌≡◌};
 ghost use Rattle.std.specs.Option.{option_map};
 ghost use Rattle.typed.specs.declared.item.Item.TheVariants.{Plain};
-ghost use Rattle.arith.specs.Shifts.{kind_number};
+ghost use Rattle.words.specs.Ops.{number_of};
 ghost use Rattle.text.specs.Names.{name_of};
+ghost use Rattle.text.specs.declared.token.Kind.TheVariants.{Integer, Logical};
 ghost use Rattle.syntax.specs.Entries.{entry_of};
 ghost use Rattle.typed.specs.Instrs.{ins};
 ghost use Rattle.typed.specs.Lists.{op_instr};
@@ -13,23 +14,20 @@ ghost use Rattle.checks.specs.Writing.{op_of, shifting_of, emits, emits_name, em
 ghost use Rattle.checks.specs.Emissions.{items_of, Narrow};
 
 use crate::table::NameTable;
+use arith::relation::Relation;
+use arith::shift;
 use syntax::node::{Node, Operator, ShiftKind};
 use text::name::Name;
 use text::token::Kind;
 use typed::item::Item;
 use words::instr::Instr;
+use words::op::Op;
 
-#[derive(Clone, Copy)]
+#[derive(Clone, Copy, PartialEq, Eq, Debug)]
 pub enum Emission {
     Nothing,
     One(Item),
     Two(Item, Item),
-}
-
-fn instr(number: u16, a: u16, b: u16) -> Instr
-    ensures { result ≡ ins number a b }
-{
-    Instr { number, a, b }
 }
 
 // The first cell of a name and how many it has.
@@ -42,74 +40,56 @@ fn spot(table: &NameTable, name: Name) -> (u16, u16)
     (e.cell as u16, e.cells as u16)
 }
 
-fn shift_number(shift: ShiftKind) -> u16
-    ensures { result ≡ kind_number (shifting_of shift) }
+fn shift_of(shift: ShiftKind) -> shift::Kind
+    ensures { result ≡ shifting_of shift }
 {
     match shift {
-        ShiftKind::Lsl => 0,
-        ShiftKind::Lsr => 1,
-        ShiftKind::Asr => 2,
-        ShiftKind::Csl => 3,
-        ShiftKind::Csr => 4,
+        ShiftKind::Lsl => shift::Kind::Lsl,
+        ShiftKind::Lsr => shift::Kind::Lsr,
+        ShiftKind::Asr => shift::Kind::Asr,
+        ShiftKind::Csl => shift::Kind::Csl,
+        ShiftKind::Csr => shift::Kind::Csr,
+    }
+}
+
+// An operator on INTEGERs, on LOGICALs, and the operand of both.
+fn operations(operator: Operator) -> (Op, Op, u16)
+    ensures integer { ins (number_of result.0) result.2 0 ≡ op_instr (op_of operator Integer) }
+    ensures logical { ins (number_of result.1) result.2 0 ≡ op_instr (op_of operator Logical) }
+{
+    match operator {
+        Operator::Times => (Op::Mul, Op::Lmul, 0),
+        Operator::Divide => (Op::Div, Op::Ldiv, 0),
+        Operator::Mod => (Op::Rem, Op::Lrem, 0),
+        Operator::Plus => (Op::Add, Op::Ladd, 0),
+        Operator::Minus => (Op::Sub, Op::Lsub, 0),
+        Operator::Equal => (Op::Cmp, Op::Lcmp, Relation::Equal as u16),
+        Operator::Unequal => (Op::Cmp, Op::Lcmp, Relation::Unequal as u16),
+        Operator::Less => (Op::Cmp, Op::Lcmp, Relation::Less as u16),
+        Operator::AtMost => (Op::Cmp, Op::Lcmp, Relation::AtMost as u16),
+        Operator::Greater => (Op::Cmp, Op::Lcmp, Relation::Greater as u16),
+        Operator::AtLeast => (Op::Cmp, Op::Lcmp, Relation::AtLeast as u16),
+        Operator::Land => (Op::And, Op::And, 0),
+        Operator::Xor => (Op::Xor, Op::Xor, 0),
+        Operator::Lor => (Op::Or, Op::Or, 0),
     }
 }
 
 // The instruction of an operator, by the type of its left side.
-fn integer_operation(operator: Operator) -> Instr
-    ensures { result ≡ op_instr (op_of operator Kind.Integer) }
-{
-    match operator {
-        Operator::Times => instr(11, 0, 0),
-        Operator::Divide => instr(12, 0, 0),
-        Operator::Mod => instr(13, 0, 0),
-        Operator::Plus => instr(9, 0, 0),
-        Operator::Minus => instr(10, 0, 0),
-        Operator::Equal => instr(20, 0, 0),
-        Operator::Unequal => instr(20, 1, 0),
-        Operator::Less => instr(20, 2, 0),
-        Operator::AtMost => instr(20, 3, 0),
-        Operator::Greater => instr(20, 4, 0),
-        Operator::AtLeast => instr(20, 5, 0),
-        Operator::Land => instr(22, 0, 0),
-        Operator::Xor => instr(24, 0, 0),
-        Operator::Lor => instr(23, 0, 0),
-    }
-}
-
-fn logical_operation(operator: Operator) -> Instr
-    ensures { result ≡ op_instr (op_of operator Kind.Logical) }
-{
-    match operator {
-        Operator::Times => instr(17, 0, 0),
-        Operator::Divide => instr(18, 0, 0),
-        Operator::Mod => instr(19, 0, 0),
-        Operator::Plus => instr(15, 0, 0),
-        Operator::Minus => instr(16, 0, 0),
-        Operator::Equal => instr(21, 0, 0),
-        Operator::Unequal => instr(21, 1, 0),
-        Operator::Less => instr(21, 2, 0),
-        Operator::AtMost => instr(21, 3, 0),
-        Operator::Greater => instr(21, 4, 0),
-        Operator::AtLeast => instr(21, 5, 0),
-        Operator::Land => instr(22, 0, 0),
-        Operator::Xor => instr(24, 0, 0),
-        Operator::Lor => instr(23, 0, 0),
-    }
-}
-
 fn operation(operator: Operator, kind: Kind) -> Instr
     ensures { result ≡ op_instr (op_of operator kind) }
 {
+    let (integer, logical, a) = operations(operator);
     match kind {
-        Kind::Integer => integer_operation(operator),
-        Kind::Logical => logical_operation(operator),
+        Kind::Integer => Instr::new(integer, a, 0),
+        Kind::Logical => Instr::new(logical, a, 0),
     }
 }
 
-fn plain(number: u16, a: u16, b: u16) -> Emission
-    ensures { result ≡ Emission.One (Plain (ins number a b)) }
+fn plain(op: Op, a: u16, b: u16) -> Emission
+    ensures { result ≡ Emission.One (Plain (ins (number_of op) a b)) }
 {
-    Emission::One(Item::Plain(instr(number, a, b)))
+    Emission::One(Item::Plain(Instr::new(op, a, b)))
 }
 
 // The entries that name something.
@@ -118,22 +98,26 @@ fn naming(table: &NameTable, node: Node) -> Option<Emission>
     ensures { option_map items_of result ≡ emits_name (table_as table.now) (entry_of node) }
 {
     match node {
-        Node::Load(name, _) | Node::Fetch(name, _) => Some(plain(2, spot(table, name).0, 0)),
-        Node::Store(name, _, _) | Node::First(name, _, _) => Some(plain(3, spot(table, name).0, 0)),
+        Node::Load(name, _) | Node::Fetch(name, _) => Some(plain(Op::Load, spot(table, name).0, 0)),
+        Node::Store(name, _, _) | Node::First(name, _, _) => Some(plain(
+            Op::Stor,
+            spot(table, name).0,
+            0,
+        )),
         Node::Index(name, _, _) => {
             let (cell, cells) = spot(table, name);
-            Some(plain(4, cell, cells))
+            Some(plain(Op::Ldx, cell, cells))
         }
         Node::StoreAt(name, _, _) => {
             let (cell, cells) = spot(table, name);
-            Some(plain(5, cell, cells))
+            Some(plain(Op::Stx, cell, cells))
         }
-        Node::Checked(name, _, _) => Some(plain(6, spot(table, name).1, 0)),
+        Node::Checked(name, _, _) => Some(plain(Op::Chk, spot(table, name).1, 0)),
         Node::FetchAt(name, _, _) => {
             let (cell, cells) = spot(table, name);
             Some(Emission::Two(
-                Item::Plain(instr(7, 0, 0)),
-                Item::Plain(instr(4, cell, cells)),
+                Item::Plain(Instr::new(Op::Dup, 0, 0)),
+                Item::Plain(Instr::new(Op::Ldx, cell, cells)),
             ))
         }
         Node::For(name, _, _) => Some(Emission::One(Item::For(spot(table, name).0))),
@@ -147,15 +131,15 @@ fn computing(kind: Kind, node: Node) -> Option<Emission>
     ensures { option_map items_of result ≡ emits_step kind (entry_of node) }
 {
     match node {
-        Node::Number(value, _) => Some(plain(1, value, 0)),
+        Node::Number(value, _) => Some(plain(Op::Lit, value, 0)),
         Node::Binary(operator, _) => Some(Emission::One(Item::Plain(operation(operator, kind)))),
-        Node::Negate(_) => Some(plain(14, 0, 0)),
-        Node::Lnot(_) => Some(plain(25, 0, 0)),
-        Node::Field(a, b, _) => Some(plain(26, a, b)),
-        Node::Deposit(a, b, _) => Some(plain(27, a, b)),
-        Node::Shift(shift, count, _) => Some(plain(28, shift_number(shift), count)),
-        Node::One => Some(plain(1, 1, 0)),
-        Node::Drop => Some(plain(8, 2, 0)),
+        Node::Negate(_) => Some(plain(Op::Neg, 0, 0)),
+        Node::Lnot(_) => Some(plain(Op::Not, 0, 0)),
+        Node::Field(a, b, _) => Some(plain(Op::Fld, a, b)),
+        Node::Deposit(a, b, _) => Some(plain(Op::Dep, a, b)),
+        Node::Shift(shift, count, _) => Some(plain(Op::Shf, shift_of(shift) as u16, count)),
+        Node::One => Some(plain(Op::Lit, 1, 0)),
+        Node::Drop => Some(plain(Op::Drop, 2, 0)),
         _ => None,
     }
 }
@@ -189,11 +173,7 @@ pub(crate) fn emission_of(table: &NameTable, kind: Kind, arms: u16, node: Node) 
     requires { Narrow (table_as table.now) }
     ensures { items_of result ≡ emits (table_as table.now) kind arms (entry_of node) }
 {
-    if let Some(e) = naming(table, node) {
-        return e;
-    }
-    match computing(kind, node) {
-        Some(e) => e,
-        None => marking(arms, node),
-    }
+    naming(table, node)
+        .or_else(|| computing(kind, node))
+        .unwrap_or_else(|| marking(arms, node))
 }

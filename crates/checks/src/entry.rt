@@ -8,13 +8,13 @@ use text::search::Named;
 use text::token::Kind;
 
 // What a name stands for. Other sorts may join these two.
-#[derive(Clone, Copy)]
+#[derive(Clone, Copy, PartialEq, Eq, Debug)]
 pub enum Sort {
     Simple,
     Array,
 }
 
-// A declared name, which holds its own bytes; its first cell and how many it has.
+// A declared name, which holds its own bytes; its first cell and how many it has. No `PartialEq`: a name has none.
 #[derive(Clone, Copy)]
 pub struct NameEntry {
     pub(crate) name: Name,
@@ -41,6 +41,19 @@ impl NameEntry {
         cell: 0,
         cells: 0,
     };
+}
+
+// A table that is not full holds it where no name was entered yet.
+impl Default for NameEntry {
+    ghost use Rattle.std.specs.Prelude.{◌≡◌};
+    ghost use Rattle.checks.specs.Tables.{nothing};
+    ghost use Rattle.checks.specs.Entered.{row_as};
+
+    ghost is_default = { λ e. row_as e ≡ nothing };
+
+    fn default() -> NameEntry {
+        NameEntry::NOTHING
+    }
 }
 
 // Completes the entry of a name whose high bound was read, if it has one, and answers how many cells it takes.

@@ -1,24 +1,31 @@
 // Why a source is refused before its code is made, and where.
-ghost use Rattle.std.specs.Prelude.{◌≡◌, Some};
+ghost use Rattle.std.specs.Prelude.{◌≡◌, Some, None, cond};
 ghost use Rattle.checks.specs.declared.fault.CheckFault.TheVariants.{Grammar};
-ghost use Rattle.checks.specs.Faults.{refusal_of, before as before_of, sooner as sooner_of, soonest as soonest_of};
+ghost use Rattle.checks.specs.Faults.{refusal_of, fault_in, soonest as soonest_of};
 ghost use Rattle.std.specs.Option.{option_map};
 
 use syntax::fault::GrammarFault;
+use thiserror::Error;
 use words::refusal::Refusal;
 
-#[derive(Clone, Copy)]
+// A `usize` is the place of the fault.
+#[derive(Clone, Copy, PartialEq, Eq, Debug, Error)]
 pub enum CheckFault {
+    #[error(transparent)]
     Grammar(GrammarFault),
-    // a name that is not declared, declared twice, the 65th, with a subscript missing or unwanted
+    #[error("this name is not declared")]
     Undeclared(usize),
+    #[error("this name is declared twice")]
     DeclaredTwice(usize),
+    #[error("this is the 65th name")]
     TooManyNames(usize),
+    #[error("a subscript is missing or unwanted")]
     Subscript(usize),
-    // the wrong type
+    #[error("the types do not agree")]
     Mistyped(usize),
-    // a field, a shift or a low bound out of its range; more than 4,096 cells
+    #[error("a field, a shift or a low bound is out of its range")]
     OutOfRange(usize),
+    #[error("the names take over 4096 cells")]
     TooManyCells(usize),
 }
 
@@ -30,45 +37,49 @@ impl From<GrammarFault> for CheckFault {
     }
 }
 
-fn refused(number: u8, place: usize) -> Refusal
-    ensures { result ≡ record { number = number; place = place } }
-{
-    Refusal { number, place }
-}
+impl From<CheckFault> for Refusal {
+    ghost from_gives = { λ e r. r ≡ refusal_of e };
 
-impl CheckFault {
-    pub fn refusal(&self) -> Refusal
-        ensures { result ≡ refusal_of self.now }
-    {
-        match self {
-            CheckFault::Grammar(e) => e.refusal(),
-            CheckFault::Undeclared(p) => refused(7, *p),
-            CheckFault::DeclaredTwice(p) => refused(8, *p),
-            CheckFault::TooManyNames(p) => refused(9, *p),
-            CheckFault::Subscript(p) => refused(10, *p),
-            CheckFault::Mistyped(p) => refused(11, *p),
-            CheckFault::OutOfRange(p) => refused(12, *p),
-            CheckFault::TooManyCells(p) => refused(13, *p),
+    fn from(e: CheckFault) -> Refusal {
+        match e {
+            CheckFault::Grammar(e) => Refusal::from(e),
+            CheckFault::Undeclared(place) => Refusal { number: 7, place },
+            CheckFault::DeclaredTwice(place) => Refusal { number: 8, place },
+            CheckFault::TooManyNames(place) => Refusal { number: 9, place },
+            CheckFault::Subscript(place) => Refusal { number: 10, place },
+            CheckFault::Mistyped(place) => Refusal { number: 11, place },
+            CheckFault::OutOfRange(place) => Refusal { number: 12, place },
+            CheckFault::TooManyCells(place) => Refusal { number: 13, place },
         }
     }
 }
 
-// The smaller place goes first, then the lower number.
-fn before(f: Refusal, g: Refusal) -> bool
-    ensures { result ≡ before_of f g }
+// Where every entry is judged, a fault is a value that is looked for, and so an Option: of the faults of a stage the
+// soonest one decides.
+
+// The fault, unless the test holds.
+pub(crate) fn unless(good: bool, fault: CheckFault) -> Option<CheckFault>
+    ensures { option_map refusal_of result ≡ cond good None (Some (refusal_of fault)) }
 {
-    f.place < g.place || f.place == g.place && f.number < g.number
+    (!good).then_some(fault)
 }
 
-// The fault that decides, of the one so far and perhaps another.
+// The fault that decides of those found so far, of which the new one may be one.
 pub(crate) fn soonest(best: Option<CheckFault>, more: Option<CheckFault>) -> Option<CheckFault>
     ensures { option_map refusal_of result ≡ soonest_of (option_map refusal_of best) (option_map refusal_of more) }
 {
     let Some(g) = more else { return best };
     let Some(f) = best else { return more };
-    if before(g.refusal(), f.refusal()) {
+    if Refusal::from(g) < Refusal::from(f) {
         Some(g)
     } else {
         Some(f)
     }
+}
+
+// What a stage answers: it passes, or the fault that decided refuses the source.
+pub(crate) fn answer(best: Option<CheckFault>) -> Result<(), CheckFault>
+    ensures { fault_in result ≡ option_map refusal_of best }
+{
+    best.map_or(Ok(()), Err)
 }

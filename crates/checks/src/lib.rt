@@ -9,7 +9,6 @@ pub mod laws;
 mod names;
 mod rule;
 mod sizes;
-mod stack;
 pub mod table;
 mod types;
 mod view;

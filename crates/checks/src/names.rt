@@ -2,12 +2,12 @@
 ghost use Rattle.std.specs.Prelude.{◌≡◌};
 ghost use Rattle.std.specs.Option.{option_map};
 ghost use Rattle.syntax.specs.Entries.{entry_of, entries as entries_of};
-ghost use Rattle.checks.specs.Faults.{refusal_of, least};
+ghost use Rattle.checks.specs.Faults.{refusal_of, fault_in, least};
 ghost use Rattle.checks.specs.Tables.{empty};
 ghost use Rattle.checks.specs.Names.{name_fault, name_faults, entered, table_from};
 ghost use Rattle.checks.specs.Tabled.{table_as};
 
-use crate::fault::{CheckFault, soonest};
+use crate::fault::{CheckFault, answer, soonest};
 use crate::table::NameTable;
 use crate::view::{declared_by, used_by};
 use syntax::node::Node;
@@ -18,17 +18,14 @@ fn name_fault(table: &mut NameTable, node: Node) -> Option<CheckFault>
     ensures table { table_as table.new ≡ entered (table_as table.old) (entry_of node) }
 {
     if let Some(d) = declared_by(node) {
-        return table.declare(d.name, d.kind, d.high, d.place);
+        return table.declare(d).err();
     }
-    match used_by(node) {
-        Some(m) => table.judge(m.name, m.sort, m.place),
-        None => None,
-    }
+    table.judge(used_by(node)?).err()
 }
 
-// Fills the table; the fault that decides, if there is one.
-pub(crate) fn names(nodes: &[Node], table: &mut NameTable) -> Option<CheckFault>
-    ensures fault { option_map refusal_of result ≡ least (name_faults empty (entries_of nodes.now)) }
+// Fills the table; every entry is judged, and the fault that decides is answered.
+pub(crate) fn names(nodes: &[Node], table: &mut NameTable) -> Result<(), CheckFault>
+    ensures fault { fault_in result ≡ least (name_faults empty (entries_of nodes.now)) }
     ensures table { table_as table.new ≡ table_from empty (entries_of nodes.now) }
 {
     table.clear();
@@ -36,5 +33,5 @@ pub(crate) fn names(nodes: &[Node], table: &mut NameTable) -> Option<CheckFault>
     for n in nodes {
         best = soonest(best, name_fault(table, *n));
     }
-    best
+    answer(best)
 }

@@ -4,7 +4,7 @@ ghost use Rattle.text.specs.Names.{name_of};
 ghost use Rattle.syntax.specs.Entries.{entry_of};
 ghost use Rattle.checks.specs.Tables.{row_of};
 ghost use Rattle.checks.specs.Tabled.{table_as};
-ghost use Rattle.checks.specs.Types.{is_kind, joined as joined_of, takes_kind, agree as agree_of, rule_of};
+ghost use Rattle.checks.specs.Types.{joined as joined_of, takes_kind, agree as agree_of, rule_of};
 
 use crate::table::NameTable;
 use syntax::node::{Node, Operator};
@@ -12,7 +12,7 @@ use text::name::Name;
 use text::token::Kind;
 
 // A `usize` is the place of the fault if the rule is broken.
-#[derive(Clone, Copy)]
+#[derive(Clone, Copy, PartialEq, Eq, Debug)]
 pub enum Rule {
     // leaves the operands as they are
     Idle,
@@ -29,15 +29,6 @@ pub enum Rule {
     Turns(Kind),
     // the first value of a FOR, whose variable has this type: both have to be INTEGER
     Starts(Kind, usize),
-}
-
-pub(crate) fn is_kind(want: Kind, kind: Kind) -> bool
-    ensures { result ≡ is_kind want kind }
-{
-    match (want, kind) {
-        (Kind::Integer, Kind::Integer) | (Kind::Logical, Kind::Logical) => true,
-        _ => false,
-    }
 }
 
 // A relation is LOGICAL; any other operator has the type of its left side.
@@ -60,7 +51,7 @@ fn takes_kind(operator: Operator, kind: Kind) -> bool
     ensures { result ≡ takes_kind operator kind }
 {
     match operator {
-        Operator::Land | Operator::Xor | Operator::Lor => is_kind(Kind::Logical, kind),
+        Operator::Land | Operator::Xor | Operator::Lor => kind == Kind::Logical,
         _ => true,
     }
 }
@@ -68,7 +59,7 @@ fn takes_kind(operator: Operator, kind: Kind) -> bool
 pub(crate) fn agree(operator: Operator, left: Kind, right: Kind) -> bool
     ensures { result ≡ agree_of operator left right }
 {
-    is_kind(left, right) && takes_kind(operator, left)
+    left == right && takes_kind(operator, left)
 }
 
 fn kind_of(table: &NameTable, name: Name) -> Kind

@@ -2,12 +2,12 @@
 ghost use Rattle.std.specs.Prelude.{◌≡◌};
 ghost use Rattle.std.specs.Option.{option_map};
 ghost use Rattle.syntax.specs.Entries.{entry_of, entries as entries_of};
-ghost use Rattle.checks.specs.Faults.{refusal_of, least};
+ghost use Rattle.checks.specs.Faults.{refusal_of, fault_in, least};
 ghost use Rattle.checks.specs.Names.{decl_of};
 ghost use Rattle.checks.specs.Sizes.{cells_fault, size_faults};
 ghost use Rattle.checks.specs.Tabled.{table_as};
 
-use crate::fault::{CheckFault, soonest};
+use crate::fault::{CheckFault, answer, soonest};
 use crate::table::NameTable;
 use crate::view::{declared_by, range_fault};
 use syntax::node::Node;
@@ -16,20 +16,17 @@ use syntax::node::Node;
 fn cells_fault(table: &NameTable, node: Node) -> Option<CheckFault>
     ensures { option_map refusal_of result ≡ cells_fault (table_as table.now) (decl_of (entry_of node)) }
 {
-    match declared_by(node) {
-        Some(d) => table.cells_fault(d.name, d.place),
-        None => None,
-    }
+    table.cells_fault(declared_by(node)?)
 }
 
-// The fault of sizes that decides, if there is one.
-pub(crate) fn sizes(nodes: &[Node], table: &NameTable) -> Option<CheckFault>
-    ensures { option_map refusal_of result ≡ least (size_faults (table_as table.now) (entries_of nodes.now)) }
+// The stage itself: every entry is judged, and the fault that decides is answered.
+pub(crate) fn sizes(nodes: &[Node], table: &NameTable) -> Result<(), CheckFault>
+    ensures { fault_in result ≡ least (size_faults (table_as table.now) (entries_of nodes.now)) }
 {
     let mut best = None;
     for n in nodes {
         let first = soonest(best, cells_fault(table, *n));
         best = soonest(first, range_fault(*n));
     }
-    best
+    answer(best)
 }

@@ -1,16 +1,16 @@
 // The table of names: room for 64.
 ghost use Rattle.std.specs.Prelude.{◌*◌, ◌≤◌};
+ghost use Rattle.arrayvec.specs.ArrayVec.{array_vec_len};
 
 use crate::entry::NameEntry;
+use arrayvec::ArrayVec;
 
 mod calls;
 
 #[derive(Drop)]
 pub struct NameTable {
-    entries: [NameEntry; 64],
-    count: usize,
+    entries: ArrayVec<NameEntry, 64>,
     // how many cells the names take
     cells: u32,
-    ghost short: { count ≤ 64 },
-    ghost fits: { cells ≤ count * 65536 },
+    ghost fits: { cells ≤ array_vec_len entries * 65536 },
 }

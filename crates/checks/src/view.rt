@@ -2,18 +2,18 @@
 ghost use Rattle.std.specs.Prelude.{◌≡◌};
 ghost use Rattle.std.specs.Option.{option_map};
 ghost use Rattle.syntax.specs.Entries.{entry_of};
-ghost use Rattle.checks.specs.Names.{decl_of, use_of, is_sort};
+ghost use Rattle.checks.specs.Names.{decl_of, use_of};
 ghost use Rattle.checks.specs.Views.{declaring_of, used_by};
-ghost use Rattle.checks.specs.Sizes.{is_field, bits_fault, range_fault};
+ghost use Rattle.checks.specs.Sizes.{is_field, range_fault};
 ghost use Rattle.checks.specs.Faults.{refusal_of};
 
 use crate::entry::Sort;
-use crate::fault::CheckFault;
+use crate::fault::{CheckFault, unless};
 use syntax::node::Node;
 use text::name::Name;
 use text::token::Kind;
 
-// A name that is declared, the high bound of an array, and the place of the name.
+// A name that is declared, the high bound of an array, and the place of the name. No `PartialEq`: a name has none.
 #[derive(Clone, Copy)]
 pub struct Declaration {
     pub name: Name,
@@ -77,30 +77,10 @@ pub(crate) fn used_by(node: Node) -> Option<Mention>
     }
 }
 
-// Whether the table has the name as it is used: 7 if it is not declared, 10 if a subscript is missing or unwanted.
-pub(crate) fn is_sort(want: Sort, sort: Sort) -> bool
-    ensures { result ≡ is_sort want sort }
-{
-    match (want, sort) {
-        (Sort::Simple, Sort::Simple) | (Sort::Array, Sort::Array) => true,
-        _ => false,
-    }
-}
-
 fn is_field(a: u16, b: u16) -> bool
     ensures { result ≡ is_field a b }
 {
     b >= 1 && b <= 15 && a as u32 + b as u32 <= 16
-}
-
-fn field_fault(a: u16, b: u16, place: usize) -> Option<CheckFault>
-    ensures { option_map refusal_of result ≡ bits_fault a b place }
-{
-    if is_field(a, b) {
-        None
-    } else {
-        Some(CheckFault::OutOfRange(place))
-    }
 }
 
 // Whether a field, a shift or a low bound is out of its range.
@@ -108,17 +88,12 @@ pub(crate) fn range_fault(node: Node) -> Option<CheckFault>
     ensures { option_map refusal_of result ≡ range_fault (entry_of node) }
 {
     match node {
-        Node::Field(a, b, place) | Node::Deposit(a, b, place) => field_fault(a, b, place),
-        Node::Shift(_, count, place) => if count <= 15 {
-            None
-        } else {
-            Some(CheckFault::OutOfRange(place))
-        },
-        Node::Array(_, _, low, _, _, place) => if low == 0 {
-            None
-        } else {
-            Some(CheckFault::OutOfRange(place))
-        },
+        Node::Field(a, b, place) | Node::Deposit(a, b, place) => unless(
+            is_field(a, b),
+            CheckFault::OutOfRange(place),
+        ),
+        Node::Shift(_, count, place) => unless(count <= 15, CheckFault::OutOfRange(place)),
+        Node::Array(_, _, low, _, _, place) => unless(low == 0, CheckFault::OutOfRange(place)),
         _ => None,
     }
 }

@@ -1,6 +1,7 @@
 -- What a source is compiled to.
 use Rattle.std.specs.Prelude.{◌≡◌, ℕ, min, cond, List, ◌++◌, map, length, drop, None, Ok, Err, Result, nat_le}
 use Rattle.words.specs.declared.instr.Instr.{Instr}
+use Rattle.words.specs.declared.code.Figures.{Figures}
 use Rattle.words.specs.declared.refusal.Refusal.{Refusal}
 use Rattle.words.specs.Refusals.{refuse, then}
 use Rattle.text.specs.Cut.{Piece, texted}
@@ -16,7 +17,6 @@ use Rattle.checks.specs.Sizes.{program_sizes}
 use Rattle.checks.specs.Writing.{resolve}
 use Rattle.checks.specs.Works.{Checked, checked}
 use Rattle.emit.specs.Items.{emitted}
-use Rattle.code.specs.declared.compiler.Figures.{Figures}
 use Rattle.code.specs.declared.fault.CompileFault.{CompileFault}
 use Rattle.code.specs.Faults.{refusal_of}
 

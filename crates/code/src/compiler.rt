@@ -7,11 +7,3 @@ pub struct Compiler {
     workspace: Workspace,
     emitter: Emitter,
 }
-
-// What goes into a card beside the code: the cells that it uses, the stack that it needs, and its length.
-#[derive(Clone, Copy)]
-pub struct Figures {
-    pub cells: u16,
-    pub depth: u16,
-    pub count: u16,
-}

@@ -4,12 +4,15 @@ ghost use Rattle.code.specs.declared.fault.CompileFault.TheVariants.{Check};
 ghost use Rattle.code.specs.Faults.{refusal_of};
 
 use checks::fault::CheckFault;
+use thiserror::Error;
 use words::refusal::Refusal;
 
-#[derive(Clone, Copy)]
+#[derive(Clone, Copy, PartialEq, Eq, Debug, Error)]
 pub enum CompileFault {
+    #[error(transparent)]
     Check(CheckFault),
-    // more instructions than 16,383, or than the table holds; the length of the source
+    // more than 16,383, or than the table holds; the length of the source
+    #[error("the code has too many instructions")]
     TooLong(usize),
 }
 
@@ -21,16 +24,13 @@ impl From<CheckFault> for CompileFault {
     }
 }
 
-impl CompileFault {
-    pub fn refusal(&self) -> Refusal
-        ensures { result ≡ refusal_of self.now }
-    {
-        match self {
-            CompileFault::Check(e) => e.refusal(),
-            CompileFault::TooLong(p) => Refusal {
-                number: 14,
-                place: *p,
-            },
+impl From<CompileFault> for Refusal {
+    ghost from_gives = { λ e r. r ≡ refusal_of e };
+
+    fn from(e: CompileFault) -> Refusal {
+        match e {
+            CompileFault::Check(e) => Refusal::from(e),
+            CompileFault::TooLong(place) => Refusal { number: 14, place },
         }
     }
 }

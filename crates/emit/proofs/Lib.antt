@@ -1,4 +1,3 @@
-pub mod Ends
 pub mod Trees
 pub mod Loops
 pub mod Sizes

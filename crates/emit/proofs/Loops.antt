@@ -1,16 +1,15 @@
 -- The loops over the items.
-use Rattle.std.proofs.Common.{◌≡◌, ℕ, zero, suc, ◌+◌, ◌-◌, ◌<◌, ◌≤◌, List, [], ◌∷◌, ◌++◌, length, get_or, drop, vec_items, vec_len, Vec, sym, refl, ap, ◌∙◌, append_assoc, arith, length-append}
-use Rattle.std.proofs.lemmas.List.{drop_more, drop_all, append-nil, length-reverse}
-use Rattle.std.specs.declared.alloc.Global.{Global}
+use Rattle.std.proofs.Common.{◌≡◌, ℕ, zero, suc, ◌+◌, ◌-◌, ◌<◌, ◌≤◌, List, [], ◌∷◌, ◌++◌, length, get_or, drop, sym, refl, ap, ◌∙◌, append_assoc, arith, length-append}
+use Rattle.std.proofs.lemmas.List.{drop_more, drop_all, append-nil}
 use Rattle.words.specs.declared.instr.Instr.{Instr}
+use Rattle.words.specs.Stacks.{below}
 use Rattle.typed.specs.declared.item.Item.{Item}
 use Rattle.typed.specs.declared.item.Item.TheVariants as item
 use Rattle.typed.specs.Instrs.{BR}
 use Rattle.emit.specs.declared.place.Placed.{Placed}
 use Rattle.emit.specs.declared.place.Aim.{Aim}
-use Rattle.emit.specs.Tops.{tl, tops}
 use Rattle.emit.specs.Items.{Back, behind, back, emits, aims, top, along, next, starts, placed, places, ends, table, without, last, emitted}
-use Rattle.emit.specs.Passes.{Applied, Low}
+use Rattle.emit.specs.Passes.{Low}
 
 pub along_sum : (n p : ℕ) → along n p ≡ p + n
 along_sum zero p = omega arith
@@ -59,14 +58,18 @@ module _ (ns : List Item) (i : ℕ) (d : Item) (h : i < length ns) where
 pub places_all : (ns : List Item) (i : ℕ) (o r : List Placed) (p : ℕ) (ss : List ℕ) → length ns ≤ i → o ++ places (drop i ns) p ss ≡ r → o ≡ r
 places_all ns i o r p ss h e = sym (append-nil o) ∙ ap (λ l. o ++ places l p ss) (sym (drop_all i ns h)) ∙ e
 
+pub places_long : (ns : List Item) (p : ℕ) (ss : List ℕ) → length (places ns p ss) ≡ length ns
+places_long [] p ss = refl
+places_long (n ∷ ns) p ss = ap suc (places_long ns (next n p) (starts n p ss))
+
 -- the arms of a CASE
-get_or_tl : (ts : List Aim) (k : ℕ) (d : Aim) → get_or (tl ts) k d ≡ get_or ts (suc k) d
-get_or_tl [] k d = refl
-get_or_tl (t ∷ ts) k d = refl
+get_or_below : (ts : List Aim) (k : ℕ) (d : Aim) → get_or (below ts) k d ≡ get_or ts (suc k) d
+get_or_below [] k d = refl
+get_or_below (t ∷ ts) k d = refl
 
 table_last : (k : ℕ) (ts : List Aim) → table (suc k) ts ≡ table k ts ++ BR (get_or ts k (aims 0 0)).no ∷ []
 table_last zero ts = refl
-table_last (suc k) ts = ap (λ is. BR (top ts).no ∷ is) (table_last k (tl ts) ∙ ap (λ (t : Aim). table k (tl ts) ++ BR t.no ∷ []) (get_or_tl ts k (aims 0 0)))
+table_last (suc k) ts = ap (λ is. BR (top ts).no ∷ is) (table_last k (below ts) ∙ ap (λ (t : Aim). table k (below ts) ++ BR t.no ∷ []) (get_or_below ts k (aims 0 0)))
 
 table_less : (k : ℕ) (ts : List Aim) → 0 < k → table k ts ≡ table (k - 1) ts ++ BR (get_or ts (k - 1) (aims 0 0)).no ∷ []
 table_less zero ts h = absurd (omega arith)
@@ -80,22 +83,25 @@ branch_more k ts is is' r h f e =
     ∙ ap (λ l. l ++ is) (sym (table_less k ts h))
     ∙ e
 
-pub without_less : (k : ℕ) (ts : List Aim) → 0 < k → without (k - 1) (tl ts) ≡ without k ts
-without_less zero ts h = absurd (omega arith)
-without_less (suc k) ts h = let e : suc k - 1 ≡ k = omega arith in ap (λ j. without j (tl ts)) e
+pub without_more : (k : ℕ) (ts : List Aim) → without (suc k) ts ≡ below (without k ts)
+without_more zero ts = refl
+without_more (suc k) ts = without_more k (below ts)
+
+below_short : (ts : List Aim) → length (below ts) ≤ length ts
+below_short [] = omega arith
+below_short (t ∷ ts) = omega arith
+
+pub without_short : (k : ℕ) (ts : List Aim) → length (below (without k ts)) ≤ length ts
+without_short zero ts = below_short ts
+without_short (suc k) ts = omega (arith, without_short k (below ts), below_short ts)
 
 -- backward
 back_last : (xs : List Placed) (x : Placed) (z : Back) → back (xs ++ x ∷ []) z ≡ back xs (behind x z)
 back_last [] x z = refl
 back_last (y ∷ xs) x z = ap (behind y) (back_last xs x z)
 
-pub back_more : (xs ys : List Placed) (x : Placed) (ts ts' : List Aim) (is is' : List Instr) (r : Back) → ys ≡ xs ++ x ∷ [] → Applied x ts ts' is is' → back ys (record { code = is; todo = ts }) ≡ r → back xs (record { code = is'; todo = ts' }) ≡ r
-back_more xs ys x ts ts' is is' r e a h =
-    ap (λ (l : List Instr). back xs (record { code = l; todo = ts' })) a.code
-    ∙ ap (λ (l : List Aim). back xs (record { code = emits x.item x.place x.after x.start ts ++ is; todo = l })) a.todo
-    ∙ sym (back_last xs x (record { code = is; todo = ts }))
-    ∙ ap (λ l. back l (record { code = is; todo = ts })) (sym e)
-    ∙ h
+pub back_more : (xs ys : List Placed) (x : Placed) (z z' r : Back) → ys ≡ xs ++ x ∷ [] → z' ≡ behind x z → back ys z ≡ r → back xs z' ≡ r
+back_more xs ys x z z' r e a h = ap (back xs) a ∙ sym (back_last xs x z) ∙ ap (λ l. back l z) (sym e) ∙ h
 
 pub back_code : (ns : List Item) (xs : List Placed) → xs ≡ places ns 0 [] → (back xs last).code ≡ emitted ns
 unfolding emitted
@@ -117,11 +123,7 @@ longer (x ∷ xs) z =
     omega (arith, longer xs z, length-append (emits x.item x.place x.after x.start y.todo) y.code)
 
 -- what is emitted of an item is no longer than the whole
-pub back_room : (xs ys : List Placed) (x : Placed) (ts : List Aim) (is : List Instr) (r : Back) → ys ≡ xs ++ x ∷ [] → back ys (record { code = is; todo = ts }) ≡ r → length (emits x.item x.place x.after x.start ts) + length is ≤ length r.code
-back_room xs ys x ts is r e h =
-    let z : Back = record { code = is; todo = ts } in
+pub back_room : (xs ys : List Placed) (x : Placed) (z r : Back) → ys ≡ xs ++ x ∷ [] → back ys z ≡ r → length (emits x.item x.place x.after x.start z.todo) + length z.code ≤ length r.code
+back_room xs ys x z r e h =
     let k = ap (λ (w : Back). length w.code) (sym (back_last xs x z) ∙ ap (λ l. back l z) (sym e) ∙ h) in
-    omega (arith, k, longer xs (behind x z), length-append (emits x.item x.place x.after x.start ts) is)
-
-pub tops_long : {T : Type 0} (v : Vec T Global) → length (tops v) ≡ vec_len v
-tops_long v = omega (arith, length-reverse (vec_items v), v.ok.0)
+    omega (arith, k, longer xs (behind x z), length-append (emits x.item x.place x.after x.start z.todo) z.code)

@@ -1,8 +1,10 @@
 -- The length and the depth of what is emitted.
-use Rattle.std.proofs.Common.{◌≡◌, ℕ, zero, suc, ◌+◌, ◌-◌, ◌<◌, ◌≤◌, max, List, [], ◌∷◌, ◌++◌, length, get_or, drop, vec_items, vec_len, Vec, sym, refl, ap, ◌∙◌, arith, length-append}
-use Rattle.std.proofs.lemmas.List.{drop_more, drop_all, length-reverse}
-use Rattle.std.specs.declared.alloc.Global.{Global}
+use Rattle.std.proofs.Common.{◌≡◌, ℕ, zero, suc, ◌+◌, ◌-◌, ◌<◌, ◌≤◌, max, List, [], ◌∷◌, ◌++◌, length, get_or, drop, None, sym, refl, ap, ◌∙◌, arith, length-append}
+use Rattle.std.proofs.lemmas.List.{drop_more, drop_all}
 use Rattle.words.specs.declared.instr.Instr.{Instr}
+use Rattle.std.specs.List.{slice_get}
+use Rattle.words.specs.Ops.{ops}
+use Rattle.words.specs.Stacks.{below}
 use Rattle.typed.specs.declared.item.Item.{Item}
 use Rattle.typed.specs.declared.item.Item.TheVariants as item
 use Rattle.typed.specs.Instrs.{HALT, up, down, nth, takes_list, leaves_list, dropped, height, peak}
@@ -10,11 +12,11 @@ use Rattle.typed.specs.Trees.{Body}
 use Rattle.typed.specs.Lists.{items}
 use Rattle.typed.specs.Code.{depth}
 use Rattle.emit.specs.declared.place.Aim.{Aim}
-use Rattle.emit.specs.Tops.{tl, tops}
 use Rattle.emit.specs.Items.{go, emits, next, starts, ends, table, emitted}
 use Rattle.emit.specs.Measure.{stacked, deepest}
 use Rattle.emit.specs.Trees.{Emission}
 use Rattle.emit.proofs.Loops.{along_sum}
+use Rattle.emit.proofs.Tables.{number_past}
 use Rattle.emit.proofs.Trees.{emission}
 
 pub table_long : (n : ℕ) (ts : List Aim) → length (table n ts) ≡ n
@@ -60,7 +62,7 @@ above h (i ∷ is) = omega arith
 table_deep : (n : ℕ) (ts : List Aim) (h : ℕ) (r : List Instr) → peak h (table n ts ++ r) ≡ peak h r
 unfolding peak
 table_deep zero ts h r = refl
-table_deep (suc n) ts h r = omega (arith, table_deep n (tl ts) h r, above h r)
+table_deep (suc n) ts h r = omega (arith, table_deep n (below ts) h r, above h r)
 
 item_deep : (n : Item) (p q s : ℕ) (ts : List Aim) (h : ℕ) (r : List Instr) → peak h (emits n p q s ts ++ r) ≡ max h (peak (stacked n h) r)
 unfolding peak
@@ -114,22 +116,15 @@ down_sub zero h = omega arith
 down_sub (suc k) zero = omega arith
 down_sub (suc k) (suc h) = omega (arith, down_sub k h)
 
-pub height_is : (i : Instr) (h d t l : ℕ) → d ≡ dropped i.number i.a → t ≡ nth takes_list i.number → l ≡ nth leaves_list i.number → h - d - t + l ≡ height i h
-height_is i h d t l x y z =
-    let a = down_sub (dropped i.number i.a) h in
-    let b = down_sub (nth takes_list i.number) (down (dropped i.number i.a) h) in
-    let c = up_sum (nth leaves_list i.number) (down (nth takes_list i.number) (down (dropped i.number i.a) h)) in
-    omega arith
+pub height_is : (i : Instr) (h n t l : ℕ) → n ≡ i.number → t ≡ dropped n i.a + nth takes_list n → l ≡ nth leaves_list n → h - t + l ≡ height i h
+height_is i h n t l e x y =
+    let a = down_sub (dropped n i.a) h in
+    let b = down_sub (nth takes_list n) (down (dropped n i.a) h) in
+    let c = up_sum (nth leaves_list n) (down (nth takes_list n) (down (dropped n i.a) h)) in
+    rw (← e) (omega arith)
 
-pub twice : (h : ℕ) → h - 2 + 2 ≡ up 2 (down 2 h)
-twice h = omega (arith, up_sum 2 (down 2 h), down_sub 2 h)
-
-pub once : (h : ℕ) → h - 1 ≡ down 1 h
-once h = sym (down_sub 1 h)
-
-pub deepest_above : (ns : List Item) (h : ℕ) → h ≤ deepest ns h
-deepest_above [] h = omega arith
-deepest_above (n ∷ ns) h = omega arith
+pub height_none : (i : Instr) (h : ℕ) → slice_get ops i.number ≡ None → h ≡ height i h
+height_none i h e = let p = number_past i.number i.a e in rw (p.0, p.1, p.2)
 
 module _ (ns : List Item) (i : ℕ) (d : Item) (h : i < length ns) where
   pub deepest_more : (k m : ℕ) → m ≡ stacked (get_or ns i d) k → deepest (drop i ns) k ≡ max k (deepest (drop (i + 1) ns) m)
@@ -137,6 +132,3 @@ module _ (ns : List Item) (i : ℕ) (d : Item) (h : i < length ns) where
 
 pub at_end : (ns : List Item) (i : ℕ) → length ns ≤ i → (p h : ℕ) → (ends (drop i ns) p ≡ p) × (deepest (drop i ns) h ≡ h)
 at_end ns i l p h = (ap (λ m. ends m p) (drop_all i ns l), ap (λ m. deepest m h) (drop_all i ns l))
-
-pub made_long : (v : Vec Instr Global) (ns : List Item) → tops v ≡ emitted ns → vec_len v ≡ ends ns 0 + 1
-made_long v ns e = omega (arith, ap length e, length-reverse (vec_items v), emitted_long ns, v.ok.0)

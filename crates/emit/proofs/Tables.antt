@@ -1,22 +1,35 @@
--- Tables by index.
-use Rattle.std.proofs.Common.{◌≡◌, ℕ, zero, suc, ◌<◌, ◌≤◌, max, List, [], ◌∷◌, length, get_or, refl, arith}
-use Rattle.typed.specs.Instrs.{nth}
+-- The instructions by their numbers.
+use Rattle.std.proofs.Common.{◌≡◌, ℕ, zero, suc, ◌+◌, ◌-◌, ◌≤◌, List, [], ◌∷◌, map, length, Some, None, refl, ap, ◌∙◌, ⊎_elim, arith}
+use Rattle.std.specs.List.{slice_get}
+use Rattle.std.proofs.lemmas.Option.{slice_get-map, slice_get_cases}
+use Rattle.words.specs.declared.op.Op.{Op}
+use Rattle.words.specs.Ops.{ops, number_of}
+use Rattle.typed.specs.Instrs.{nth, takes_list, leaves_list, dropped}
 
-pub nth_in : (xs : List ℕ) (i d : ℕ) → i < length xs → get_or xs i d ≡ nth xs i
-nth_in [] i d h = absurd (omega arith)
-nth_in (x ∷ xs) zero d h = refl
-nth_in (x ∷ xs) (suc i) d h = nth_in xs i d (omega arith)
+-- they count up from k
+abbrev Counts : List ℕ → ℕ → Type 0
+Counts [] k = Unit {0}
+Counts (x ∷ xs) k = (x ≡ k) × Counts xs (suc k)
 
-pub nth_past : (xs : List ℕ) (i : ℕ) → length xs ≤ i → 0 ≡ nth xs i
+counted : (xs : List ℕ) (k n m : ℕ) → Counts xs k → slice_get xs n ≡ Some m → m ≡ k + n
+counted [] k n m h e = absurd (let z : ◌≡◌ {A = ℕ} 0 1 = cc in omega arith)
+counted (x ∷ xs) k zero m h e = let f : x ≡ m = cc in omega (arith, h.0)
+counted (x ∷ xs) k (suc n) m h e = omega (arith, counted xs (suc k) n m h.1 e)
+
+pub number_at : (n : ℕ) (o : Op) → slice_get ops n ≡ Some o → number_of o ≡ n
+number_at n o e = omega (arith, counted (map number_of ops) 0 n (number_of o) (search arith) (slice_get-map number_of ops n ∙ ap (λ v. elim v [ Some x ↦ Some (number_of x) | None ↦ None ]) e))
+
+nth_past : (xs : List ℕ) (i : ℕ) → length xs ≤ i → nth xs i ≡ 0
 nth_past [] i h = refl
 nth_past (x ∷ xs) zero h = absurd (omega arith)
 nth_past (x ∷ xs) (suc i) h = nth_past xs i (omega arith)
 
-abbrev pub biggest : List ℕ → ℕ
-biggest [] = 0
-biggest (x ∷ xs) = max x (biggest xs)
+past : {A : Type 0} (xs : List A) (i : ℕ) → slice_get xs i ≡ None → length xs ≤ i
+past xs i e = ⊎_elim (λ s. absurd (let z : ◌≡◌ {A = ℕ} 0 1 = cc in omega arith)) (λ s. s.0) (slice_get_cases xs i).1
 
-pub nth_biggest : (xs : List ℕ) (i : ℕ) → nth xs i ≤ biggest xs
-nth_biggest [] i = omega arith
-nth_biggest (x ∷ xs) zero = omega arith
-nth_biggest (x ∷ xs) (suc i) = omega (arith, nth_biggest xs i)
+-- what no instruction has for its number
+pub number_past : (n a : ℕ) → slice_get ops n ≡ None → (dropped n a ≡ 0) × (nth takes_list n ≡ 0) × (nth leaves_list n ≡ 0)
+number_past n a e =
+    let h = past ops n e in
+    let m : n ≡ suc (suc (suc (suc (suc (suc (suc (suc (suc (n - 9))))))))) = omega arith in
+    (ap (λ k. dropped k a) m, nth_past takes_list n (omega arith), nth_past leaves_list n (omega arith))

@@ -8,7 +8,7 @@ use Rattle.typed.specs.Trees.{Expr, lit, var, pick, bin, un, Clause, test, and, 
 use Rattle.typed.specs.Lists.{items_e, items_l, items_c, items_s, items_b, items_a, items}
 use Rattle.typed.specs.Code.{end_e, end_l, end_c, end_s, end_b, end_a, table_end, table as branches, code_e, code_l, code_c, code_s, code_b, code_a, program}
 use Rattle.emit.specs.declared.place.Aim.{Aim}
-use Rattle.emit.specs.Tops.{tl}
+use Rattle.words.specs.Stacks.{below}
 use Rattle.emit.specs.Items.{Back, go, aims, top, along, table, without, emitted}
 
 -- f in front of the code
@@ -30,11 +30,11 @@ clause (and e l) ns p ss = expr e _ p ss ∙ ap (λ z. puts (code_e e) (record {
 -- what is open before a condition
 abbrev before : Cond → ℕ → List Aim → List Aim
 before (only l) p ts = ts
-before (or l c) p ts = aims (top ts).yes (suc (end_l l p)) ∷ tl ts
+before (or l c) p ts = aims (top ts).yes (suc (end_l l p)) ∷ below ts
 
-below : (c : Cond) (p : ℕ) (ts : List Aim) → tl (before c p ts) ≡ tl ts
-below (only l) p ts = refl
-below (or l c) p ts = refl
+beneath : (c : Cond) (p : ℕ) (ts : List Aim) → below (before c p ts) ≡ below ts
+beneath (only l) p ts = refl
+beneath (or l c) p ts = refl
 
 stays : (c : Cond) (p : ℕ) (ts : List Aim) → (top (before c p ts)).yes ≡ (top ts).yes
 stays (only l) p ts = refl
@@ -45,8 +45,8 @@ condition (only l) ns p ss h = clause l ns p ss
 condition (or l c) ns p ss h =
     let q = suc (end_l l p) in
     clause l _ p ss
-    ∙ ap (λ (w : Back). record { code = code_l l q (BR (top w.todo).yes ∷ w.code); todo = aims (top w.todo).yes q ∷ tl w.todo }) (condition c ns q ss h)
-    ∙ rw (stays, below, h)
+    ∙ ap (λ (w : Back). record { code = code_l l q (BR (top w.todo).yes ∷ w.code); todo = aims (top w.todo).yes q ∷ below w.todo }) (condition c ns q ss h)
+    ∙ rw (stays, beneath, h)
 
 -- what is open before the arms of a CASE: an entry for each, all with the end
 abbrev armed : Arms → ℕ → List Aim → List Aim
@@ -77,19 +77,19 @@ mutual
   stmt (deposit_at x n i a b e) ns p ss = expr i _ p ss ∙ ap (puts (λ r. code_e i (DUP ∷ LDX x n ∷ r))) (expr e _ (suc (suc (end_e i p))) ss)
   stmt (when c b) ns p ss =
       let q = end_c c p in
-      ap (λ (w : Back). record { code = w.code; todo = tl w.todo }) (condition c _ p ss refl)
-      ∙ rw (below, body b (item.Fi ∷ ns) q ss)
+      ap (λ (w : Back). record { code = w.code; todo = below w.todo }) (condition c _ p ss refl)
+      ∙ rw (beneath, body b (item.Fi ∷ ns) q ss)
   stmt (either c b d) ns p ss =
       let q = end_c c p in
-      ap (λ (w : Back). record { code = w.code; todo = tl w.todo }) (condition c _ p ss refl)
-      ∙ rw (below, body b (item.Else ∷ items_b d (item.Fi ∷ ns)) q ss, body d (item.Fi ∷ ns) (suc (end_b b q)) ss)
+      ap (λ (w : Back). record { code = w.code; todo = below w.todo }) (condition c _ p ss refl)
+      ∙ rw (beneath, body b (item.Else ∷ items_b d (item.Fi ∷ ns)) q ss, body d (item.Fi ∷ ns) (suc (end_b b q)) ss)
   stmt (while c b) ns p ss =
       let q = end_c c p in
-      ap (λ (w : Back). record { code = w.code; todo = tl w.todo }) (condition c _ p (p ∷ ss) refl)
-      ∙ rw (below, body b (item.Loop ∷ ns) q (p ∷ ss))
+      ap (λ (w : Back). record { code = w.code; todo = below w.todo }) (condition c _ p (p ∷ ss) refl)
+      ∙ rw (beneath, body b (item.Loop ∷ ns) q (p ∷ ss))
   stmt (repeat b c) ns p ss =
       body b _ p (p ∷ ss)
-      ∙ rw (condition c (item.Done ∷ ns) (end_b b p) (p ∷ ss) refl, below)
+      ∙ rw (condition c (item.Done ∷ ns) (end_b b p) (p ∷ ss) refl, beneath)
   stmt (for c e d l b) ns p ss =
       let q = end_e l (end_e d (suc (end_e e p))) in
       let after : List Item = item.Next c ∷ item.Plain (DROP 2) ∷ ns in
@@ -104,7 +104,7 @@ mutual
       let q = table_end a t in
       let z = go (item.Esac ∷ ns) (end_a a q) ss in
       expr e _ p ss
-      ∙ rw (passed, arms a (item.Esac ∷ ns) q ss, disarmed) (ap (λ is. puts (code_e e) (record { code = CASE t (size a) ∷ is; todo = tl z.todo })) (branched a q z.todo (code_a a q (top z.todo).yes z.code)))
+      ∙ rw (passed, arms a (item.Esac ∷ ns) q ss, disarmed) (ap (λ is. puts (code_e e) (record { code = CASE t (size a) ∷ is; todo = below z.todo })) (branched a q z.todo (code_a a q (top z.todo).yes z.code)))
 
   body : (b : Body) (ns : List Item) (p : ℕ) (ss : List ℕ) → go (items_b b ns) p ss ≡ puts (code_b b p) (go ns (end_b b p) ss)
   body end ns p ss = refl

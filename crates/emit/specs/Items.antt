@@ -1,7 +1,7 @@
 -- The code of a list of items. What is known from in front goes down the list: the place, and the starts of the open
 -- loops. What is known from behind comes up: the code that follows, and where each open construct goes on.
 use Rattle.std.specs.Prelude.{ℕ, zero, suc, List, [], ◌∷◌, ◌++◌, slice_index, slice_index_or}
-use Rattle.emit.specs.Tops.{tl}
+use Rattle.words.specs.Stacks.{below}
 use Rattle.words.specs.declared.instr.Instr.{Instr}
 use Rattle.typed.specs.declared.item.Item.{Item}
 use Rattle.typed.specs.declared.item.Item.TheVariants as item
@@ -55,12 +55,12 @@ starts item.Then p ss = ss
 starts item.Else p ss = ss
 starts item.Fi p ss = ss
 starts item.While p ss = p ∷ ss
-starts item.Loop p ss = tl ss
+starts item.Loop p ss = below ss
 starts item.Do p ss = p ∷ ss
 starts item.Until p ss = ss
-starts item.Done p ss = tl ss
+starts item.Done p ss = below ss
 starts (item.For c) p ss = p ∷ ss
-starts (item.Next c) p ss = tl ss
+starts (item.Next c) p ss = below ss
 starts (item.Case n) p ss = ss
 starts item.Arm p ss = ss
 starts item.Out p ss = ss
@@ -82,11 +82,11 @@ ends (n ∷ ns) p = ends ns (next n p)
 -- a branch to each of the n arms on top
 abbrev pub table : ℕ → List Aim → List Instr
 table zero ts = []
-table (suc n) ts = BR (top ts).no ∷ table n (tl ts)
+table (suc n) ts = BR (top ts).no ∷ table n (below ts)
 
 abbrev pub without : ℕ → List Aim → List Aim
 without zero ts = ts
-without (suc n) ts = without n (tl ts)
+without (suc n) ts = without n (below ts)
 
 -- the instructions of an item: p is its place, q the one after it, s the start of its loop, and ts what is open behind it
 abbrev pub emits : Item → (p q s : ℕ) → List Aim → List Instr
@@ -113,19 +113,19 @@ emits item.Esac p q s ts = []
 abbrev pub opens : Item → (p q s : ℕ) → List Aim → List Aim
 opens (item.Plain i) p q s ts = ts
 opens item.Test p q s ts = ts
-opens item.Or p q s ts = aims (top ts).yes q ∷ tl ts
-opens item.If p q s ts = tl ts
-opens item.Then p q s ts = aims p (top ts).no ∷ tl ts
-opens item.Else p q s ts = aims 0 q ∷ tl ts
+opens item.Or p q s ts = aims (top ts).yes q ∷ below ts
+opens item.If p q s ts = below ts
+opens item.Then p q s ts = aims p (top ts).no ∷ below ts
+opens item.Else p q s ts = aims 0 q ∷ below ts
 opens item.Fi p q s ts = aims 0 p ∷ ts
-opens item.While p q s ts = tl ts
+opens item.While p q s ts = below ts
 opens item.Loop p q s ts = aims 0 q ∷ ts
 opens item.Do p q s ts = ts
-opens item.Until p q s ts = tl ts
+opens item.Until p q s ts = below ts
 opens item.Done p q s ts = aims p s ∷ ts
-opens (item.For c) p q s ts = tl ts
+opens (item.For c) p q s ts = below ts
 opens (item.Next c) p q s ts = aims 0 q ∷ ts
-opens (item.Case n) p q s ts = tl (without n ts)
+opens (item.Case n) p q s ts = below (without n ts)
 opens item.Arm p q s ts = aims (top ts).yes p ∷ ts
 opens item.Out p q s ts = ts
 opens item.Esac p q s ts = aims p 0 ∷ ts

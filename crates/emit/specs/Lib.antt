@@ -1,4 +1,3 @@
-pub mod Tops
 pub mod Items
 pub mod Passes
 pub mod Measure

@@ -1,9 +1,9 @@
 // Code from the typed list, in two passes: forward for the places, backward for the instructions.
 #![tactic(auto)]
 
+mod backward;
 pub mod emitter;
+mod forward;
 pub mod laws;
 mod measure;
-mod passes;
 pub mod place;
-mod stack;

@@ -1,58 +1,56 @@
 // The length and the depth of the code, before any of it is made.
 ghost use Rattle.std.specs.Prelude.{◌≡◌, ℕ, ◌+◌, ◌*◌, ◌<◌, ◌≤◌};
-ghost use Rattle.typed.specs.Instrs.{nth, takes_list, leaves_list, height, dropped as dropped_of};
+ghost use Rattle.words.specs.Ops.{number_of};
+ghost use Rattle.typed.specs.Instrs.{nth, takes_list, leaves_list, height, dropped};
 ghost use Rattle.emit.specs.Items.{next};
 ghost use Rattle.emit.specs.Measure.{stacked, Measures};
 
 use crate::place::Figures;
 use typed::item::Item;
 use words::instr::Instr;
+use words::op::Op;
 
-// By an instruction's number: the words that it takes off the stack (DROP apart), and those that it leaves there.
-const TAKES: [u8; 34] = [
-    0, 0, 0, 1, 1, 2, 1, 1, 0, 2, 2, 2, 2, 2, 1, 2, 2, 2, 2, 2, 2, 2, 2, 2, 2, 1, 1, 2, 1, 0, 1, 1,
-    2, 2,
-];
-
-const LEAVES: [u8; 34] = [
-    0, 1, 1, 0, 1, 0, 1, 2, 0, 1, 1, 1, 1, 1, 1, 1, 1, 1, 1, 1, 1, 1, 1, 1, 1, 1, 1, 1, 1, 0, 0, 0,
-    2, 2,
-];
-
-// No instruction has a number over 33, and so it takes nothing.
-fn takes(number: u16) -> u32
-    ensures { result ≡ nth takes_list number }
+// The words that an instruction takes off the stack: DROP as many as its operand says.
+fn takes(op: Op, a: u16) -> u32
+    ensures { result ≡ dropped (number_of op) a + nth takes_list (number_of op) }
 {
-    if number > 33 {
-        return 0;
+    match op {
+        Op::Drop => a as u32,
+        Op::Halt | Op::Lit | Op::Load | Op::Br => 0,
+        Op::Stor
+        | Op::Ldx
+        | Op::Chk
+        | Op::Dup
+        | Op::Neg
+        | Op::Not
+        | Op::Fld
+        | Op::Shf
+        | Op::Bre
+        | Op::Case => 1,
+        _ => 2,
     }
-    TAKES[number as usize] as u32
 }
 
-fn leaves(number: u16) -> u32
-    ensures { (result ≡ nth leaves_list number) × (result ≤ 2) }
+// Those that it leaves there.
+fn leaves(op: Op) -> u32
+    ensures { (result ≡ nth leaves_list (number_of op)) × (result ≤ 2) }
 {
-    if number > 33 {
-        return 0;
+    match op {
+        Op::Halt | Op::Stor | Op::Stx | Op::Drop | Op::Br | Op::Bre | Op::Case => 0,
+        Op::Dup | Op::For | Op::Next => 2,
+        _ => 1,
     }
-    LEAVES[number as usize] as u32
 }
 
-// DROP takes as many words as its operand says.
-fn dropped(i: Instr) -> u32
-    ensures { result ≡ dropped_of i.number i.a }
-{
-    if i.number == 8 { i.a as u32 } else { 0 }
-}
-
-// The words stacked after an instruction.
+// The words stacked after an instruction; a number that none has changes nothing.
 fn height_after(i: Instr, h: u32) -> u32
     requires { h < 1000000 }
     ensures { (result ≡ height i h) × (result ≤ h + 2) }
 {
-    let less = h.saturating_sub(dropped(i));
-    let least = less.saturating_sub(takes(i.number));
-    least + leaves(i.number)
+    match Op::try_from(i.number) {
+        Ok(op) => h.saturating_sub(takes(op, i.a)) + leaves(op),
+        Err(_) => h,
+    }
 }
 
 // The words stacked after the code of an item.
@@ -69,7 +67,7 @@ fn stack_after(item: Item, h: u32) -> u32
 }
 
 // How many instructions an item has.
-fn size_of(item: Item) -> u32
+pub(crate) fn size_of(item: Item) -> u32
     ensures { ((p : ℕ) → next item p ≡ p + result) × (result ≤ 65536) }
 {
     match item {

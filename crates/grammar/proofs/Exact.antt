@@ -27,7 +27,7 @@ reads_the_grammar end ps es = (
 -- the pieces that a source is cut into
 cut_ok : (x : Result (List Piece) Refusal) (end : ℕ) (es : List Entry) → then x (parse end) ≡ Ok es → (ps : List Piece) × (x ≡ Ok ps) × (parse end ps ≡ Ok es)
 cut_ok (Ok ps) end es h = (ps, refl, h)
-cut_ok (Err e) end es h = absurd (let z : ◌≡◌ {A = ℕ} 0 1 = cc in omega arith)
+cut_ok (Err e) end es h = absurd cc
 
 pub cut_of : (source : List ℕ) (es : List Entry) → syntaxed source ≡ Ok es → (ps : List Piece) × (texted source ≡ Ok ps) × (parse (length source) ps ≡ Ok es)
 unfolding syntaxed

@@ -7,14 +7,14 @@ use Rattle.syntax.specs.declared.lexeme.Strength.{Strength}
 use Rattle.syntax.specs.declared.lexeme.Strength.TheVariants as strength
 use Rattle.syntax.specs.Entries.{Entry}
 use Rattle.syntax.specs.Entries as entry
-use Rattle.syntax.specs.Marks.{Mark, Tok, is_symbol, is_keyword, literal_of, kind_of, operator_at, rank_of}
+use Rattle.syntax.specs.Marks.{Mark, Tok, is_symbol, is_keyword, literal_of, kind_of, operator_at}
 use Rattle.syntax.specs.Machine.{Goal, feed, expr}
 use Rattle.syntax.specs.Machine as goal
 use Rattle.trees.specs.Trees.{Expr}
 use Rattle.trees.specs.Lists.{list_e}
 use Rattle.grammar.specs.Grammar.{at, symbol, word, name, decimal, Rank, lor, xor, land, relation, sum, term, factor, primary, Chain, lor_xor, xor_land, land_relation, relation_sum, sum_term, term_factor, factor_primary, Left, lors, xors, lands, sums, terms, FieldWritten, bits, ExprWritten}
 use Rattle.grammar.specs.Grammar as rule
-use Rattle.grammar.proofs.Marks.{not_keyword, not_symbol, kind_literal, grip, operator_grip, operator_none, no_dot, no_ampersand, no_open}
+use Rattle.grammar.proofs.Marks.{not_keyword, not_symbol, kind_literal, grip, operator_grip, operator_none, no_dot, no_ampersand, no_open, rank_of}
 use Rattle.grammar.proofs.Runs.{run, deeper_in, onto_e, at_none, at_some}
 
 -- the goals of an expression of each rank, and the last of them, which waits for the next token

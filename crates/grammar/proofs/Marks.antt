@@ -1,161 +1,50 @@
 -- Marks told apart: what one class of marks is, it is not of another. Assumes nothing.
-use Rattle.std.proofs.Common.{◌≡◌, ℕ, suc, ◌≤◌, max, Bool, true, false, cond, eqb, List, Some, None, Option, sym, refl, ap, ◌∙◌, arith, ne_eqb, eqb-true}
+use Rattle.std.proofs.Common.{◌≡◌, ℕ, suc, ◌≤◌, max, Bool, true, false, cond, List, Some, None, Option, sym, refl, ap, ◌∙◌, arith}
+use Rattle.std.proofs.lemmas.Bool.{false_from_ne_true}
+use denote.Enum.Bare.{same_true, false_same}
 use Rattle.text.specs.declared.token.Kind.{Kind}
 use Rattle.text.specs.declared.token.Keyword.{Keyword}
 use Rattle.text.specs.declared.token.Keyword.TheVariants as kw
 use Rattle.text.specs.declared.token.Symbol.{Symbol}
 use Rattle.text.specs.declared.token.Symbol.TheVariants as sign
+use Rattle.text.specs.contracts.token.Keyword.{the_type as keyword_type}
+use Rattle.text.specs.contracts.token.Symbol.{the_type as symbol_type}
 use Rattle.text.specs.Cut.{Piece}
 use Rattle.text.specs.Cut as piece
 use Rattle.text.specs.Reserved.{keyword_of}
 use Rattle.syntax.specs.declared.node.Operator.{Operator}
 use Rattle.syntax.specs.declared.lexeme.Strength.{Strength}
-use Rattle.syntax.specs.Marks.{Mark, keyword, symbol, name, number, stop, seen, worded, is_stop, is_symbol, is_keyword, sign_number, word_number, literal_of, kind_of, operator_at, operator_sign, operator_word, strength_of, rank_of, kept, truth_word, truth_at, kind_word}
+use Rattle.syntax.specs.declared.lexeme.Strength.TheVariants as strength
+use Rattle.syntax.specs.contracts.lexeme.Strength.{the_type as strength_type}
+use Rattle.syntax.specs.Marks.{Mark, keyword, symbol, name, number, stop, seen, worded, is_stop, is_symbol, is_keyword, same_strength, literal_of, kind_of, operator_at, operator_sign, operator_word, strength_of, kept, truth_word, truth_at, kind_word}
 
 -- Booleans and options
-pub apart : {A : Type 0} → true ≡ false → A
-apart h = absurd (let z : ◌≡◌ {A = ℕ} 0 1 = cc in omega arith)
-
 pub both : {A : Type 0} {b : Bool} → b ≡ true → b ≡ false → A
-both p q = apart (sym p ∙ q)
+both p q = absurd cc
 
 pub empty : {A B : Type 0} {x : A} {o : Option A} → o ≡ Some x → o ≡ None → B
-empty p q = absurd (let z : ◌≡◌ {A = ℕ} 0 1 = cc in omega arith)
-
-pub not_true : {b : Bool} → (b ≡ true → ⊥) → b ≡ false
-not_true {b} h = go b h
-  where
-    go : (x : Bool) → (x ≡ true → ⊥) → x ≡ false
-    go true f = absurd (f refl)
-    go false f = refl
-
--- a symbol, a reserved word by its number
-abbrev sign_at : ℕ → Symbol
-sign_at n =
-    cond (eqb n 0) sign.Becomes (
-    cond (eqb n 1) sign.Unequal (
-    cond (eqb n 2) sign.AtMost (
-    cond (eqb n 3) sign.AtLeast (
-    cond (eqb n 4) sign.Semicolon (
-    cond (eqb n 5) sign.Comma (
-    cond (eqb n 6) sign.Dot (
-    cond (eqb n 7) sign.Open (
-    cond (eqb n 8) sign.Close (
-    cond (eqb n 9) sign.Colon (
-    cond (eqb n 10) sign.Equal (
-    cond (eqb n 11) sign.Less (
-    cond (eqb n 12) sign.Greater (
-    cond (eqb n 13) sign.Plus (
-    cond (eqb n 14) sign.Minus (
-    cond (eqb n 15) sign.Times (
-    cond (eqb n 16) sign.Divide (
-    sign.Ampersand)))))))))))))))))
-
-sign_back : (s : Symbol) → sign_at (sign_number s) ≡ s
-sign_back sign.Becomes = refl
-sign_back sign.Unequal = refl
-sign_back sign.AtMost = refl
-sign_back sign.AtLeast = refl
-sign_back sign.Semicolon = refl
-sign_back sign.Comma = refl
-sign_back sign.Dot = refl
-sign_back sign.Open = refl
-sign_back sign.Close = refl
-sign_back sign.Colon = refl
-sign_back sign.Equal = refl
-sign_back sign.Less = refl
-sign_back sign.Greater = refl
-sign_back sign.Plus = refl
-sign_back sign.Minus = refl
-sign_back sign.Times = refl
-sign_back sign.Divide = refl
-sign_back sign.Ampersand = refl
-
-abbrev word_at : ℕ → Keyword
-word_at n =
-    cond (eqb n 0) kw.Begin (
-    cond (eqb n 1) kw.End (
-    cond (eqb n 2) kw.Integer (
-    cond (eqb n 3) kw.Logical (
-    cond (eqb n 4) kw.Array (
-    cond (eqb n 5) kw.If (
-    cond (eqb n 6) kw.Then (
-    cond (eqb n 7) kw.Else (
-    cond (eqb n 8) kw.Case (
-    cond (eqb n 9) kw.Of (
-    cond (eqb n 10) kw.While (
-    cond (eqb n 11) kw.Do (
-    cond (eqb n 12) kw.Until (
-    cond (eqb n 13) kw.For (
-    cond (eqb n 14) kw.Step (
-    cond (eqb n 15) kw.Or (
-    cond (eqb n 16) kw.And (
-    cond (eqb n 17) kw.Mod (
-    cond (eqb n 18) kw.Lnot (
-    cond (eqb n 19) kw.Land (
-    cond (eqb n 20) kw.Xor (
-    cond (eqb n 21) kw.Lor (
-    cond (eqb n 22) kw.Lsl (
-    cond (eqb n 23) kw.Lsr (
-    cond (eqb n 24) kw.Asr (
-    cond (eqb n 25) kw.Csl (
-    cond (eqb n 26) kw.Csr (
-    cond (eqb n 27) kw.True (
-    cond (eqb n 28) kw.False (
-    kw.Comment)))))))))))))))))))))))))))))
-
-word_back : (w : Keyword) → word_at (word_number w) ≡ w
-word_back kw.Begin = refl
-word_back kw.End = refl
-word_back kw.Integer = refl
-word_back kw.Logical = refl
-word_back kw.Array = refl
-word_back kw.If = refl
-word_back kw.Then = refl
-word_back kw.Else = refl
-word_back kw.Case = refl
-word_back kw.Of = refl
-word_back kw.While = refl
-word_back kw.Do = refl
-word_back kw.Until = refl
-word_back kw.For = refl
-word_back kw.Step = refl
-word_back kw.Or = refl
-word_back kw.And = refl
-word_back kw.Mod = refl
-word_back kw.Lnot = refl
-word_back kw.Land = refl
-word_back kw.Xor = refl
-word_back kw.Lor = refl
-word_back kw.Lsl = refl
-word_back kw.Lsr = refl
-word_back kw.Asr = refl
-word_back kw.Csl = refl
-word_back kw.Csr = refl
-word_back kw.True = refl
-word_back kw.False = refl
-word_back kw.Comment = refl
+empty p q = absurd cc
 
 pub symbol_is : (s : Symbol) (m : Mark) → is_symbol s m ≡ true → m ≡ symbol s
-symbol_is s (symbol x) h = ap symbol (sym (sign_back x) ∙ ap sign_at (sym (eqb-true (sign_number s) (sign_number x) h)) ∙ sign_back s)
-symbol_is s (keyword w) h = apart (sym h)
-symbol_is s (name n) h = apart (sym h)
-symbol_is s (number k v) h = apart (sym h)
-symbol_is s stop h = apart (sym h)
+symbol_is s (symbol x) h = ap symbol (sym (same_true symbol_type tt s x h))
+symbol_is s (keyword w) h = absurd cc
+symbol_is s (name n) h = absurd cc
+symbol_is s (number k v) h = absurd cc
+symbol_is s stop h = absurd cc
 
 pub keyword_is : (w : Keyword) (m : Mark) → is_keyword w m ≡ true → m ≡ keyword w
-keyword_is w (keyword x) h = ap keyword (sym (word_back x) ∙ ap word_at (sym (eqb-true (word_number w) (word_number x) h)) ∙ word_back w)
-keyword_is w (symbol s) h = apart (sym h)
-keyword_is w (name n) h = apart (sym h)
-keyword_is w (number k v) h = apart (sym h)
-keyword_is w stop h = apart (sym h)
+keyword_is w (keyword x) h = ap keyword (sym (same_true keyword_type tt w x h))
+keyword_is w (symbol s) h = absurd cc
+keyword_is w (name n) h = absurd cc
+keyword_is w (number k v) h = absurd cc
+keyword_is w stop h = absurd cc
 
 -- a mark that a function answers to is not one that it does not
 pub not_keyword : {A : Type 0} (f : Mark → Option A) (w : Keyword) (m : Mark) {x : A} → f (keyword w) ≡ None → f m ≡ Some x → is_keyword w m ≡ false
-not_keyword f w m n h = not_true (λ t. empty h (ap f (keyword_is w m t) ∙ n))
+not_keyword f w m n h = false_from_ne_true _ (λ t. empty h (ap f (keyword_is w m t) ∙ n))
 
 pub not_symbol : {A : Type 0} (f : Mark → Option A) (s : Symbol) (m : Mark) {x : A} → f (symbol s) ≡ None → f m ≡ Some x → is_symbol s m ≡ false
-not_symbol f s m n h = not_true (λ t. empty h (ap f (symbol_is s m t) ∙ n))
+not_symbol f s m n h = false_from_ne_true _ (λ t. empty h (ap f (symbol_is s m t) ∙ n))
 
 -- a type's word is no literal
 word_kind : (w : Keyword) {k : Kind} → kind_word w ≡ Some k → truth_at (truth_word w) ≡ None
@@ -186,16 +75,25 @@ word_kind kw.Lsr h = refl
 word_kind kw.Asr h = refl
 word_kind kw.Csl h = refl
 word_kind kw.Csr h = refl
-word_kind kw.True h = absurd (let z : ◌≡◌ {A = ℕ} 0 1 = cc in omega arith)
-word_kind kw.False h = absurd (let z : ◌≡◌ {A = ℕ} 0 1 = cc in omega arith)
+word_kind kw.True h = absurd cc
+word_kind kw.False h = absurd cc
 word_kind kw.Comment h = refl
 
 pub kind_literal : (m : Mark) {k : Kind} → kind_of m ≡ Some k → literal_of m ≡ None
 kind_literal (keyword w) h = word_kind w h
 kind_literal (symbol s) h = refl
 kind_literal (name n) h = refl
-kind_literal (number k v) h = absurd (let z : ◌≡◌ {A = ℕ} 0 1 = cc in omega arith)
+kind_literal (number k v) h = absurd cc
 kind_literal stop h = refl
+
+-- the strengths from the weakest
+abbrev pub rank_of : Strength → ℕ
+rank_of strength.Lor = 0
+rank_of strength.Xor = 1
+rank_of strength.Land = 2
+rank_of strength.Relation = 3
+rank_of strength.Sum = 4
+rank_of strength.Term = 5
 
 -- How strongly a mark can take hold of what stands before it: an operator by its strength, a field or a shift more
 -- strongly, a parenthesis most.
@@ -237,8 +135,8 @@ suffix_none sign.AtMost o h = refl
 suffix_none sign.AtLeast o h = refl
 suffix_none sign.Semicolon o h = refl
 suffix_none sign.Comma o h = refl
-suffix_none sign.Dot o h = absurd (let z : ◌≡◌ {A = ℕ} 0 1 = cc in omega arith)
-suffix_none sign.Open o h = absurd (let z : ◌≡◌ {A = ℕ} 0 1 = cc in omega arith)
+suffix_none sign.Dot o h = absurd cc
+suffix_none sign.Open o h = absurd cc
 suffix_none sign.Close o h = refl
 suffix_none sign.Colon o h = refl
 suffix_none sign.Equal o h = refl
@@ -248,15 +146,15 @@ suffix_none sign.Plus o h = refl
 suffix_none sign.Minus o h = refl
 suffix_none sign.Times o h = refl
 suffix_none sign.Divide o h = refl
-suffix_none sign.Ampersand o h = absurd (let z : ◌≡◌ {A = ℕ} 0 1 = cc in omega arith)
+suffix_none sign.Ampersand o h = absurd cc
 
 kept_rank : (s : Strength) (x : Option Operator) {o : Operator} → kept s x ≡ Some o → grip_of x ≡ suc (rank_of s)
 kept_rank s None h = empty (sym h ∙ h) (sym h)
-kept_rank s (Some x) {o} h = go (eqb (rank_of s) (rank_of (strength_of x))) refl h
+kept_rank s (Some x) {o} h = go (same_strength s (strength_of x)) refl h
   where
-    go : (b : Bool) → eqb (rank_of s) (rank_of (strength_of x)) ≡ b → cond b (Some x) None ≡ Some o → suc (rank_of (strength_of x)) ≡ suc (rank_of s)
-    go true e h = ap suc (sym (eqb-true (rank_of s) (rank_of (strength_of x)) e))
-    go false e h = absurd (let z : ◌≡◌ {A = ℕ} 0 1 = cc in omega arith)
+    go : (b : Bool) → same_strength s (strength_of x) ≡ b → cond b (Some x) None ≡ Some o → suc (rank_of (strength_of x)) ≡ suc (rank_of s)
+    go true e h = ap (λ r. suc (rank_of r)) (sym (same_true strength_type tt s (strength_of x) e))
+    go false e h = absurd cc
 
 some_of : (s : Strength) (x : Option Operator) {o : Operator} → kept s x ≡ Some o → (y : Operator) × (x ≡ Some y)
 some_of s None h = empty (sym h ∙ h) (sym h)
@@ -269,13 +167,13 @@ operator_grip s (symbol x) h =
     let y = some_of s (operator_sign x) h in
     let b = suffix_none x y.0 y.1 in
     omega arith
-operator_grip s (name n) h = absurd (let z : ◌≡◌ {A = ℕ} 0 1 = cc in omega arith)
-operator_grip s (number k v) h = absurd (let z : ◌≡◌ {A = ℕ} 0 1 = cc in omega arith)
-operator_grip s stop h = absurd (let z : ◌≡◌ {A = ℕ} 0 1 = cc in omega arith)
+operator_grip s (name n) h = absurd cc
+operator_grip s (number k v) h = absurd cc
+operator_grip s stop h = absurd cc
 
 kept_none : (s : Strength) (x : Option Operator) → grip_of x ≤ rank_of s → kept s x ≡ None
 kept_none s None h = refl
-kept_none s (Some x) h = ap (λ b. cond b (Some x) None) (ne_eqb (rank_of s) (rank_of (strength_of x)) (λ e. omega arith))
+kept_none s (Some x) h = ap (λ b. cond b (Some x) None) (false_same strength_type tt s (strength_of x) (λ e. let r = ap rank_of e in omega arith))
 
 pub operator_none : (s : Strength) (m : Mark) → grip m ≤ rank_of s → operator_at s m ≡ None
 operator_none s (keyword w) h = kept_none s (operator_word w) h
@@ -285,13 +183,13 @@ operator_none s (number k v) h = refl
 operator_none s stop h = refl
 
 pub no_dot : (m : Mark) → grip m ≤ 6 → is_symbol sign.Dot m ≡ false
-no_dot m h = not_true (λ t. let e = ap grip (symbol_is sign.Dot m t) in omega arith)
+no_dot m h = false_from_ne_true _ (λ t. let e = ap grip (symbol_is sign.Dot m t) in omega arith)
 
 pub no_ampersand : (m : Mark) → grip m ≤ 6 → is_symbol sign.Ampersand m ≡ false
-no_ampersand m h = not_true (λ t. let e = ap grip (symbol_is sign.Ampersand m t) in omega arith)
+no_ampersand m h = false_from_ne_true _ (λ t. let e = ap grip (symbol_is sign.Ampersand m t) in omega arith)
 
 pub no_open : (m : Mark) → grip m ≤ 7 → is_symbol sign.Open m ≡ false
-no_open m h = not_true (λ t. let e = ap grip (symbol_is sign.Open m t) in omega arith)
+no_open m h = false_from_ne_true _ (λ t. let e = ap grip (symbol_is sign.Open m t) in omega arith)
 
 -- no token of a text is its end
 word_live : (w : List ℕ) (k : Option Keyword) → is_stop (worded w k) ≡ false

@@ -30,7 +30,7 @@ use Rattle.grammar.proofs.Grows as grow
 
 -- a refusal is no list
 never : {A : Type 0} {r : Refusal} {es : List Entry} → ◌≡◌ {A = Parsed} (Err r) (Ok es) → A
-never h = absurd (let z : ◌≡◌ {A = ℕ} 0 1 = cc in omega arith)
+never h = absurd cc
 
 -- which way a test went
 pub ways : (b : Bool) (x y : Parsed) {es : List Entry} → cond b x y ≡ Ok es → ((b ≡ true) × (x ≡ Ok es)) ⊎ ((b ≡ false) × (y ≡ Ok es))
@@ -64,18 +64,18 @@ puts_adds Q y {o} f x = record { rest = y ∷ x.rest; is = x.is ∙ onto o y x.r
 -- names and numbers
 spelled_is : (m : Mark) {n : List ℕ} → spelled_of m ≡ Some n → m ≡ mark.name n
 spelled_is (mark.name x) h = ap mark.name (let e : x ≡ _ = cc in e)
-spelled_is (mark.keyword w) h = absurd (let z : ◌≡◌ {A = ℕ} 0 1 = cc in omega arith)
-spelled_is (mark.symbol s) h = absurd (let z : ◌≡◌ {A = ℕ} 0 1 = cc in omega arith)
-spelled_is (mark.number k v) h = absurd (let z : ◌≡◌ {A = ℕ} 0 1 = cc in omega arith)
-spelled_is mark.stop h = absurd (let z : ◌≡◌ {A = ℕ} 0 1 = cc in omega arith)
+spelled_is (mark.keyword w) h = absurd cc
+spelled_is (mark.symbol s) h = absurd cc
+spelled_is (mark.number k v) h = absurd cc
+spelled_is mark.stop h = absurd cc
 
 decimal_is : (m : Mark) {v : ℕ} → decimal_of m ≡ Some v → m ≡ mark.number kind.Integer v
 decimal_is (mark.number kind.Integer x) {v} h = ap (mark.number kind.Integer) (let e : x ≡ v = cc in e)
-decimal_is (mark.number kind.Logical x) h = absurd (let z : ◌≡◌ {A = ℕ} 0 1 = cc in omega arith)
-decimal_is (mark.name x) h = absurd (let z : ◌≡◌ {A = ℕ} 0 1 = cc in omega arith)
-decimal_is (mark.keyword w) h = absurd (let z : ◌≡◌ {A = ℕ} 0 1 = cc in omega arith)
-decimal_is (mark.symbol s) h = absurd (let z : ◌≡◌ {A = ℕ} 0 1 = cc in omega arith)
-decimal_is mark.stop h = absurd (let z : ◌≡◌ {A = ℕ} 0 1 = cc in omega arith)
+decimal_is (mark.number kind.Logical x) h = absurd cc
+decimal_is (mark.name x) h = absurd cc
+decimal_is (mark.keyword w) h = absurd cc
+decimal_is (mark.symbol s) h = absurd cc
+decimal_is mark.stop h = absurd cc
 
 -- the reserved word of each opening
 abbrev opener : Opening → Keyword
@@ -88,42 +88,42 @@ opener opening.Counted = kw.For
 
 opener_is : (w : Keyword) {x : Opening} → opening_word w ≡ Some x → w ≡ opener x
 opener_is kw.Begin {x} h = ap opener (let e : opening.Block ≡ x = cc in e)
-opener_is kw.End h = absurd (let z : ◌≡◌ {A = ℕ} 0 1 = cc in omega arith)
-opener_is kw.Integer h = absurd (let z : ◌≡◌ {A = ℕ} 0 1 = cc in omega arith)
-opener_is kw.Logical h = absurd (let z : ◌≡◌ {A = ℕ} 0 1 = cc in omega arith)
-opener_is kw.Array h = absurd (let z : ◌≡◌ {A = ℕ} 0 1 = cc in omega arith)
+opener_is kw.End h = absurd cc
+opener_is kw.Integer h = absurd cc
+opener_is kw.Logical h = absurd cc
+opener_is kw.Array h = absurd cc
 opener_is kw.If {x} h = ap opener (let e : opening.Conditional ≡ x = cc in e)
-opener_is kw.Then h = absurd (let z : ◌≡◌ {A = ℕ} 0 1 = cc in omega arith)
-opener_is kw.Else h = absurd (let z : ◌≡◌ {A = ℕ} 0 1 = cc in omega arith)
+opener_is kw.Then h = absurd cc
+opener_is kw.Else h = absurd cc
 opener_is kw.Case {x} h = ap opener (let e : opening.Choice ≡ x = cc in e)
-opener_is kw.Of h = absurd (let z : ◌≡◌ {A = ℕ} 0 1 = cc in omega arith)
+opener_is kw.Of h = absurd cc
 opener_is kw.While {x} h = ap opener (let e : opening.Ahead ≡ x = cc in e)
 opener_is kw.Do {x} h = ap opener (let e : opening.Behind ≡ x = cc in e)
-opener_is kw.Until h = absurd (let z : ◌≡◌ {A = ℕ} 0 1 = cc in omega arith)
+opener_is kw.Until h = absurd cc
 opener_is kw.For {x} h = ap opener (let e : opening.Counted ≡ x = cc in e)
-opener_is kw.Step h = absurd (let z : ◌≡◌ {A = ℕ} 0 1 = cc in omega arith)
-opener_is kw.Or h = absurd (let z : ◌≡◌ {A = ℕ} 0 1 = cc in omega arith)
-opener_is kw.And h = absurd (let z : ◌≡◌ {A = ℕ} 0 1 = cc in omega arith)
-opener_is kw.Mod h = absurd (let z : ◌≡◌ {A = ℕ} 0 1 = cc in omega arith)
-opener_is kw.Lnot h = absurd (let z : ◌≡◌ {A = ℕ} 0 1 = cc in omega arith)
-opener_is kw.Land h = absurd (let z : ◌≡◌ {A = ℕ} 0 1 = cc in omega arith)
-opener_is kw.Xor h = absurd (let z : ◌≡◌ {A = ℕ} 0 1 = cc in omega arith)
-opener_is kw.Lor h = absurd (let z : ◌≡◌ {A = ℕ} 0 1 = cc in omega arith)
-opener_is kw.Lsl h = absurd (let z : ◌≡◌ {A = ℕ} 0 1 = cc in omega arith)
-opener_is kw.Lsr h = absurd (let z : ◌≡◌ {A = ℕ} 0 1 = cc in omega arith)
-opener_is kw.Asr h = absurd (let z : ◌≡◌ {A = ℕ} 0 1 = cc in omega arith)
-opener_is kw.Csl h = absurd (let z : ◌≡◌ {A = ℕ} 0 1 = cc in omega arith)
-opener_is kw.Csr h = absurd (let z : ◌≡◌ {A = ℕ} 0 1 = cc in omega arith)
-opener_is kw.True h = absurd (let z : ◌≡◌ {A = ℕ} 0 1 = cc in omega arith)
-opener_is kw.False h = absurd (let z : ◌≡◌ {A = ℕ} 0 1 = cc in omega arith)
-opener_is kw.Comment h = absurd (let z : ◌≡◌ {A = ℕ} 0 1 = cc in omega arith)
+opener_is kw.Step h = absurd cc
+opener_is kw.Or h = absurd cc
+opener_is kw.And h = absurd cc
+opener_is kw.Mod h = absurd cc
+opener_is kw.Lnot h = absurd cc
+opener_is kw.Land h = absurd cc
+opener_is kw.Xor h = absurd cc
+opener_is kw.Lor h = absurd cc
+opener_is kw.Lsl h = absurd cc
+opener_is kw.Lsr h = absurd cc
+opener_is kw.Asr h = absurd cc
+opener_is kw.Csl h = absurd cc
+opener_is kw.Csr h = absurd cc
+opener_is kw.True h = absurd cc
+opener_is kw.False h = absurd cc
+opener_is kw.Comment h = absurd cc
 
 opening_is : (m : Mark) {x : Opening} → opening_of m ≡ Some x → m ≡ mark.keyword (opener x)
 opening_is (mark.keyword w) h = ap mark.keyword (opener_is w h)
-opening_is (mark.name x) h = absurd (let z : ◌≡◌ {A = ℕ} 0 1 = cc in omega arith)
-opening_is (mark.symbol s) h = absurd (let z : ◌≡◌ {A = ℕ} 0 1 = cc in omega arith)
-opening_is (mark.number k v) h = absurd (let z : ◌≡◌ {A = ℕ} 0 1 = cc in omega arith)
-opening_is mark.stop h = absurd (let z : ◌≡◌ {A = ℕ} 0 1 = cc in omega arith)
+opening_is (mark.name x) h = absurd cc
+opening_is (mark.symbol s) h = absurd cc
+opening_is (mark.number k v) h = absurd cc
+opening_is mark.stop h = absurd cc
 
 in_opening : (x : Opening) (p l : ℕ) (k : List Goal) (ts : List Tok) (r : List Entry) → All (inner x p l ++ k) ts r → In (opener x) p l (All k) ts r
 in_opening opening.Block p l k ts r y = grow.in_block y

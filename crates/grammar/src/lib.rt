@@ -4,22 +4,16 @@
 ghost use Rattle.grammar.specs.Theorems.{ReadsTheGrammar, ListsATree, OneTree};
 
 // The reader's list is that of the tree that the tokens are written from, and there is one exactly where it reads.
-pub fn grammar_stands() -> u8
+pub fn grammar_stands()
     ensures { ReadsTheGrammar }
-{
-    0
-}
+{}
 
 // Every list that a source is read to is that of a tree.
-pub fn lists_a_tree() -> u8
+pub fn lists_a_tree()
     ensures { ListsATree }
-{
-    0
-}
+{}
 
 // Tokens are written from one tree at most.
-pub fn one_tree() -> u8
+pub fn one_tree()
     ensures { OneTree }
-{
-    0
-}
+{}

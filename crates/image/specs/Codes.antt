@@ -2,6 +2,7 @@
 use Rattle.std.specs.Prelude.{ℕ, zero, suc, Bool, true, false, ◌&&◌, List, [], ◌∷◌, ◌++◌, length, Some, None, Option, ◌==◌, nat_le}
 use Rattle.words.specs.Rows.{operands_of}
 use Rattle.words.specs.declared.instr.Instr.{Instr}
+use Rattle.words.specs.declared.code.Code.{Code as Lent}
 use Rattle.image.specs.Groups.{written}
 
 -- what an image holds: the cells that the code uses, the stack that it needs, and its instructions
@@ -12,6 +13,10 @@ pub record Code : Type 0 where
 
 abbrev pub coded : ℕ → ℕ → List Instr → Code
 coded c d is = record { cells = c; depth = d; entries = is }
+
+-- the one that a caller lends
+abbrev pub code_of : Lent → Code
+code_of k = coded k.cells k.depth k.instructions.now
 
 -- an instruction's operands, where it names none, `a`, or both
 abbrev pub operand_bytes : ℕ → ℕ → ℕ → List ℕ

@@ -2,30 +2,34 @@
 ghost use Rattle.std.specs.Prelude.{◌≡◌};
 ghost use Rattle.image.specs.Faults.{refusal_of};
 
-use std::error::Error;
-use std::fmt;
+use thiserror::Error;
 use words::refusal::Refusal;
 
 // Each with its place: of the number's first byte, where nothing else is said.
-#[derive(Clone, Copy, PartialEq, Eq, Debug)]
+#[derive(Clone, Copy, PartialEq, Eq, Debug, Error)]
 pub enum ImageFault {
-    // The bytes end inside the image; the place is their length.
+    // the place is their length
+    #[error("the image is cut short")]
     CutShort(usize),
-    // A number begins with a group of seven zeros.
+    #[error("a number begins with a group of zeros")]
     LeadingZeros(usize),
-    // A number is over 65,535.
+    #[error("a number is over 65535")]
     TooLarge(usize),
-    // No instruction has this number.
+    #[error("there is no instruction of this number")]
     UnknownInstruction(usize),
-    // Bytes are left after the last instruction; the place is the first of them.
+    // the place is the first of them
+    #[error("bytes are left after the last instruction")]
     BytesLeft(usize),
-    // More than 4,096 cells, no instruction or more than 16,383.
+    #[error("the cells are over 4096, or the instructions are none or over 16383")]
     BadHeader(usize),
-    // The table lent is shorter than the count; the place is the count's first byte.
+    // the place is the count's first byte
+    #[error("the table has too few entries for the instructions")]
     TableShort(usize),
-    // The room lent is shorter than the image; the place is how many bytes it takes.
+    // the place is how many bytes it takes
+    #[error("the room is too short: the image takes this many bytes")]
     RoomShort(usize),
-    // The entry at this index, or the header at 0, is no code's.
+    // the entry at this index, or the header at 0
+    #[error("the entry or the header is no code's")]
     BadEntry(usize),
 }
 
@@ -47,21 +51,3 @@ impl From<ImageFault> for Refusal {
         Refusal { place, number }
     }
 }
-
-impl fmt::Display for ImageFault {
-    fn fmt<W: fmt::Write>(&self, f: &mut fmt::Formatter<W>) -> fmt::Result {
-        f.write_str(match self {
-            ImageFault::CutShort(_) => "the image is cut short",
-            ImageFault::LeadingZeros(_) => "a number begins with a group of zeros",
-            ImageFault::TooLarge(_) => "a number is over 65535",
-            ImageFault::UnknownInstruction(_) => "there is no instruction of this number",
-            ImageFault::BytesLeft(_) => "bytes are left after the last instruction",
-            ImageFault::BadHeader(_) => "the cells are over 4096, or the instructions are none or over 16383",
-            ImageFault::TableShort(_) => "the table has too few entries for the instructions",
-            ImageFault::RoomShort(_) => "the room is too short: the image takes this many bytes",
-            ImageFault::BadEntry(_) => "the entry or the header is no code's",
-        })
-    }
-}
-
-impl Error for ImageFault {}

@@ -1,6 +1,6 @@
 // A code is written as an image: first judged and measured, and only then put into the room.
 ghost use Rattle.std.specs.Prelude.{◌≡◌, ◌*◌, ◌<◌, ◌≤◌, true, [], ◌∷◌, ◌++◌, length, drop, IfSome, IfOk, Ok};
-ghost use Rattle.image.specs.Codes.{coded, entry_bytes, body_bytes, good_header, image};
+ghost use Rattle.image.specs.Codes.{code_of, entry_bytes, body_bytes, good_header, image};
 ghost use Rattle.image.specs.Groups.{written};
 ghost use Rattle.image.specs.Faults.{refusal_of};
 ghost use Rattle.image.specs.Writing.{size_of, judged, encoded, counted, filled, HasRoom, Appended};
@@ -8,6 +8,7 @@ ghost use Rattle.words.specs.Refusals.{told, then};
 
 use crate::fault::ImageFault;
 use crate::groups::groups;
+use words::code::Code;
 use words::instr::{Instr, operands};
 use words::list::Bounded;
 
@@ -57,19 +58,18 @@ fn put(out: &mut Bounded<'_, u8>, n: u16)
     let low = (n % 128) as u8;
     let middle = (n / 128 % 128) as u8 + 128;
     let high = (n / 16384) as u8 + 128;
-    let count = groups(n);
-    if count == 1 {
-        add(out, low);
-        return;
+    match groups(n) {
+        1 => add(out, low),
+        2 => {
+            add(out, middle);
+            add(out, low);
+        }
+        _ => {
+            add(out, high);
+            add(out, middle);
+            add(out, low);
+        }
     }
-    if count == 2 {
-        add(out, middle);
-        add(out, low);
-        return;
-    }
-    add(out, high);
-    add(out, middle);
-    add(out, low);
 }
 
 // An instruction's number, then the operands that it names.
@@ -94,8 +94,8 @@ fn put_body(out: &mut Bounded<'_, u8>, code: &[Instr])
     requires { HasRoom out.old (body_bytes code.now) }
     ensures { Appended out.old (body_bytes code.now) out.new }
 {
-    for i in 0..code.len() {
-        put_entry(out, code[i]);
+    for entry in code {
+        put_entry(out, *entry);
     }
 }
 
@@ -113,8 +113,8 @@ fn measure(code: &[Instr]) -> Result<usize, ImageFault>
     ensures small { IfOk result (λ n. n ≤ 9 * 16383) }
 {
     let mut bytes = 0;
-    for i in 0..code.len() {
-        match entry_size(code[i]) {
+    for (i, entry) in code.iter().enumerate() {
+        match entry_size(*entry) {
             Some(n) => bytes += n,
             None => return Err(ImageFault::BadEntry(i)),
         }
@@ -123,31 +123,32 @@ fn measure(code: &[Instr]) -> Result<usize, ImageFault>
 }
 
 // Puts the image of a good code at the front of the room.
-fn lay(cells: u16, depth: u16, code: &[Instr], out: &mut [u8])
-    requires { (length code.now ≤ 16383) × (length (image (coded cells depth code.now)) ≤ length out.old) }
-    ensures { out.new ≡ image (coded cells depth code.now) ++ drop (length (image (coded cells depth code.now))) out.old }
+fn lay(code: Code<'_>, out: &mut [u8])
+    requires { (length code.instructions.now ≤ 16383) × (length (image (code_of code)) ≤ length out.old) }
+    ensures { out.new ≡ image (code_of code.entry) ++ drop (length (image (code_of code.entry))) out.old }
 {
     let mut list = Bounded::new(out);
-    put(&mut list, cells);
-    put(&mut list, depth);
-    put(&mut list, code.len() as u16);
-    put_body(&mut list, code);
+    put(&mut list, code.cells);
+    put(&mut list, code.depth);
+    put(&mut list, code.instructions.len() as u16);
+    put_body(&mut list, code.instructions);
 }
 
 // Writes the image of a code into the room, and answers how many bytes it takes. A refusal leaves the room as it was,
 // and bytes past the image keep what they held.
-pub fn encode(cells: u16, depth: u16, code: &[Instr], out: &mut [u8]) -> Result<usize, ImageFault>
-    ensures answer { told refusal_of result ≡ counted (encoded (length out.old) (coded cells depth code.now)) }
-    ensures after { out.new ≡ filled (encoded (length out.old) (coded cells depth code.now)) out.old }
+pub fn encode(code: Code<'_>, out: &mut [u8]) -> Result<usize, ImageFault>
+    ensures answer { told refusal_of result ≡ counted (encoded (length out.old) (code_of code.entry)) }
+    ensures after { out.new ≡ filled (encoded (length out.old) (code_of code.entry)) out.old }
 {
-    if !good_header(cells, code.len()) {
+    let count = code.instructions.len();
+    if !good_header(code.cells, count) {
         return Err(ImageFault::BadEntry(0));
     }
-    let body = measure(code)?;
-    let needed = size(cells) + size(depth) + size(code.len() as u16) + body;
+    let body = measure(code.instructions)?;
+    let needed = size(code.cells) + size(code.depth) + size(count as u16) + body;
     if needed > out.len() {
         return Err(ImageFault::RoomShort(needed));
     }
-    lay(cells, depth, code, out);
+    lay(code, out);
     Ok(needed)
 }

@@ -1,24 +1,21 @@
 // `spl tokens`: a source cut into tokens.
 use crate::fields::Problem;
-use crate::meaning::spelling;
-use crate::source::{TOP, load, onward, tell};
+use crate::source::{Spot, load, tell};
 use anyhow::anyhow;
 use std::fmt::Write;
 use text::reserved::keyword;
 use text::token::{Kind, Token};
 use text::whole::TokensFault;
 
-pub fn place_of(t: &Token<'_>) -> usize {
+fn place_of(t: &Token<'_>) -> usize {
     match t {
-        Token::Word(_, p) => *p,
-        Token::Number(_, _, _, p) => *p,
-        Token::Symbol(_, p) => *p,
+        Token::Word(_, place) | Token::Number(_, _, _, place) | Token::Symbol(_, place) => *place,
     }
 }
 
 fn put_text(out: &mut String, bytes: &[u8]) -> Result<(), Problem> {
     for b in bytes {
-        out.push((b & 127) as char)?;
+        out.push(*b as char)?;
     }
     Ok(())
 }
@@ -26,21 +23,20 @@ fn put_text(out: &mut String, bytes: &[u8]) -> Result<(), Problem> {
 // A token as the batch protocol has it: place, kind and text.
 pub fn put_token(out: &mut String, t: &Token<'_>) -> Result<(), Problem> {
     match t {
-        Token::Word(w, p) => {
-            write!(out, " {p}:w:")?;
+        Token::Word(w, place) => {
+            write!(out, " {place}:w:")?;
             put_text(out, w)
         }
-        Token::Number(w, Kind::Integer, _, p) => {
-            write!(out, " {p}:n:")?;
+        Token::Number(w, Kind::Integer, _, place) => {
+            write!(out, " {place}:n:")?;
             put_text(out, w)
         }
-        Token::Number(w, Kind::Logical, _, p) => {
-            write!(out, " {p}:o:")?;
+        Token::Number(w, Kind::Logical, _, place) => {
+            write!(out, " {place}:o:")?;
             put_text(out, w)
         }
-        Token::Symbol(s, p) => {
-            write!(out, " {p}:s:")?;
-            out.push_str(spelling(*s))?;
+        Token::Symbol(s, place) => {
+            write!(out, " {place}:s:{s}")?;
             Ok(())
         }
     }
@@ -60,35 +56,22 @@ fn describe(rt: &HostRuntime, t: &Token<'_>) -> anyhow::Result<()> {
         }
         Token::Number(w, kind, value, _) => {
             let digits = std::str::from_utf8(w)?;
-            let name = match kind {
-                Kind::Integer => "INTEGER",
-                Kind::Logical => "LOGICAL",
-            };
-            println!(rt; "{name:<8}  {digits} = {value}")?;
+            println!(rt; "{kind:<8}  {digits} = {value}")?;
         }
-        Token::Symbol(s, _) => {
-            let sign = spelling(*s);
-            println!(rt; "symbol    {sign}")?;
-        }
+        Token::Symbol(s, _) => println!(rt; "symbol    {s}")?,
     }
     Ok(())
 }
 
 fn lines(rt: &HostRuntime, source: &[u8], tokens: &[Token<'_>]) -> anyhow::Result<()> {
-    let mut spot = TOP;
-    let mut from = 0;
+    let mut spot = Spot::TOP;
     println!(rt; " line  col  place  kind      text")?;
     for t in tokens {
-        let place = place_of(t);
-        spot = onward(source, spot, from, place);
-        from = place;
-        let line = spot.line;
-        let column = spot.column;
-        print!(rt; "{line:>5} {column:>4} {place:>6}  ")?;
+        spot = spot.onward(source, place_of(t));
+        print!(rt; "{:>5} {:>4} {:>6}  ", spot.line, spot.column(), spot.place)?;
         describe(rt, t)?;
     }
-    let count = tokens.len();
-    println!(rt; "{count} tokens")?;
+    println!(rt; "{} tokens", tokens.len())?;
     Ok(())
 }
 
@@ -96,7 +79,7 @@ pub fn tokens(rt: &HostRuntime, path: &str) -> anyhow::Result<()> {
     let source = load(rt, path)?;
     match text::whole::tokens(rt.alloc(), source.as_slice()) {
         Ok(list) => lines(rt, source.as_slice(), list.as_slice()),
-        Err(TokensFault::Text(fault)) => tell(rt, path, source.as_slice(), fault.refusal()),
+        Err(TokensFault::Text(fault)) => tell(rt, path, source.as_slice(), fault),
         Err(TokensFault::Memory) => Err(anyhow!("want of memory")),
     }
 }

@@ -1,35 +1,30 @@
 // `spl list`: what an image holds.
-use crate::meaning::{mnemonic, sentence};
 use crate::source::load;
 use anyhow::anyhow;
-use image::Figures;
 use image::read::decode;
 use image::write::{entry_size, size};
-use words::instr::{Instr, operands};
-
-const EMPTY: Instr = Instr {
-    number: 0,
-    a: 0,
-    b: 0,
-};
+use words::code::Figures;
+use words::instr::Instr;
+use words::op::Op;
+use words::refusal::Refusal;
 
 // An instruction with the operands that it names.
 fn line(rt: &HostRuntime, index: usize, offset: usize, i: Instr) -> anyhow::Result<()> {
-    let name = mnemonic(i.number);
-    let a = i.a;
-    let b = i.b;
-    match operands(i.number) {
-        Some(2) => println!(rt; "{index:>5} {offset:>7}  {name:<4} {a} {b}")?,
-        Some(1) => println!(rt; "{index:>5} {offset:>7}  {name:<4} {a}")?,
-        _ => println!(rt; "{index:>5} {offset:>7}  {name}")?,
+    let op = Op::try_from(i.number)?;
+    match op.operands() {
+        2 => println!(rt; "{index:>5} {offset:>7}  {op:<4} {} {}", i.a, i.b)?,
+        1 => println!(rt; "{index:>5} {offset:>7}  {op:<4} {}", i.a)?,
+        _ => println!(rt; "{index:>5} {offset:>7}  {op}")?,
     }
     Ok(())
 }
 
 fn lines(rt: &HostRuntime, figures: Figures, bytes: usize, code: &[Instr]) -> anyhow::Result<()> {
-    let cells = figures.cells;
-    let depth = figures.depth;
-    let count = figures.count;
+    let Figures {
+        cells,
+        depth,
+        count,
+    } = figures;
     println!(rt; "cells {cells}, depth {depth}, instructions {count}, bytes {bytes}")?;
     let mut offset = size(cells) + size(depth) + size(count);
     for (index, i) in code.iter().enumerate() {
@@ -41,18 +36,15 @@ fn lines(rt: &HostRuntime, figures: Figures, bytes: usize, code: &[Instr]) -> an
 
 pub fn list(rt: &HostRuntime, path: &str) -> anyhow::Result<()> {
     let bytes = load(rt, path)?;
-    let mut table = vec![in rt.alloc(); EMPTY; 16383]?;
+    let mut table = vec![in rt.alloc(); Instr::default(); 16383]?;
     match decode(bytes.as_slice(), table.as_mut_slice()) {
         Ok(figures) => {
             table.truncate(figures.count as usize);
             lines(rt, figures, bytes.len(), table.as_slice())
         }
         Err(fault) => {
-            let refusal = fault.refusal();
-            let number = refusal.number;
-            let place = refusal.place;
-            let why = sentence(refusal);
-            println!(rt; "{path}: refused with {number} at {place}: {why}")?;
+            let Refusal { place, number } = fault.into();
+            println!(rt; "{path}: refused with {number} at {place}: {fault}")?;
             Err(anyhow!("the image is refused"))
         }
     }

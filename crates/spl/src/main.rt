@@ -5,7 +5,6 @@ mod batch;
 mod cutting;
 mod fields;
 mod listing;
-mod meaning;
 mod source;
 
 use anyhow::anyhow;

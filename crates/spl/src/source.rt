@@ -1,38 +1,41 @@
 // Places in a source: lines, columns, and the mark under a refusal.
-use crate::meaning::sentence;
 use anyhow::anyhow;
 use std::alloc::Global;
+use std::fmt::Display;
 use std::fs;
 use words::refusal::Refusal;
 
-// A place by its line and column, both from 1, and where the line begins.
+// A place, its line, from 1, and where that line begins.
 #[derive(Clone, Copy)]
 pub struct Spot {
+    pub place: usize,
     pub line: usize,
-    pub column: usize,
     start: usize,
 }
 
-pub const TOP: Spot = Spot {
-    line: 1,
-    column: 1,
-    start: 0,
-};
+impl Spot {
+    pub const TOP: Spot = Spot {
+        place: 0,
+        line: 1,
+        start: 0,
+    };
 
-// Goes on from the spot at the place `from` to the place `to`, past the line feeds between them.
-pub fn onward(source: &[u8], spot: Spot, from: usize, to: usize) -> Spot {
-    let mut line = spot.line;
-    let mut start = spot.start;
-    for i in from..to {
-        if source.get(i) == Some(&b'\n') {
-            line = line.saturating_add(1);
-            start = i.saturating_add(1);
-        }
+    // From 1.
+    pub fn column(self) -> usize {
+        self.place.saturating_sub(self.start).saturating_add(1)
     }
-    Spot {
-        line,
-        column: to.saturating_sub(start).saturating_add(1),
-        start,
+
+    // Goes on to a later place, past the line feeds before it.
+    pub fn onward(self, source: &[u8], place: usize) -> Spot {
+        let mut line = self.line;
+        let mut start = self.start;
+        for (i, b) in source.iter().enumerate().take(place).skip(self.place) {
+            if *b == b'\n' {
+                line = line.saturating_add(1);
+                start = i.saturating_add(1);
+            }
+        }
+        Spot { place, line, start }
     }
 }
 
@@ -47,44 +50,33 @@ pub fn load(rt: &HostRuntime, path: &str) -> anyhow::Result<Vec<u8>> {
     }
 }
 
-// The bytes as text; what cannot be shown is a question mark.
+// The bytes up to a line feed as text; what cannot be shown is a question mark.
 fn shown(heap: Global, bytes: &[u8]) -> anyhow::Result<String> {
     let mut text = String::new(heap);
-    for b in bytes {
-        if *b == b'\n' {
-            break;
-        }
-        let c = if *b >= 32 && *b < 127 {
+    for b in bytes.iter().take_while(|b| **b != b'\n') {
+        text.push(if b.is_ascii_graphic() || *b == b' ' {
             *b as char
         } else {
             '?'
-        };
-        text.push(c)?;
-    }
-    Ok(text)
-}
-
-fn spaces(heap: Global, n: usize) -> anyhow::Result<String> {
-    let mut text = String::new(heap);
-    for _ in 0..n {
-        text.push(' ')?;
+        })?;
     }
     Ok(text)
 }
 
 // Why a source is refused, with its line and a mark under the place.
-pub fn tell(rt: &HostRuntime, path: &str, source: &[u8], refusal: Refusal) -> anyhow::Result<()> {
-    let heap = rt.alloc();
-    let number = refusal.number;
-    let place = refusal.place;
-    let why = sentence(refusal);
-    let spot = onward(source, TOP, 0, place.min(source.len()));
+pub fn tell<E: Copy + Display + Into<Refusal>>(
+    rt: &HostRuntime,
+    path: &str,
+    source: &[u8],
+    fault: E,
+) -> anyhow::Result<()> {
+    let Refusal { place, number } = fault.into();
+    let spot = Spot::TOP.onward(source, place.min(source.len()));
     let line = spot.line;
-    let column = spot.column;
-    println!(rt; "{path}:{line}:{column}: refused with {number} at {place}: {why}")?;
-    let text = shown(heap, source.get(spot.start..).unwrap_or(source))?;
-    let mark = spaces(heap, column.saturating_sub(1))?;
+    let column = spot.column();
+    println!(rt; "{path}:{line}:{column}: refused with {number} at {place}: {fault}")?;
+    let text = shown(rt.alloc(), source.get(spot.start..).unwrap_or(source))?;
     println!(rt; "{text}")?;
-    println!(rt; "{mark}^")?;
+    println!(rt; "{:>column$}", "^")?;
     Err(anyhow!("the source is refused"))
 }

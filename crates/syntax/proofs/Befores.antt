@@ -1,12 +1,14 @@
 -- What a promise that holds whatever comes below says of some goals below. Assumes nothing.
-use Rattle.std.proofs.Common.{◌≡◌, ℕ, List, [], ◌∷◌, ◌++◌, Ok, Err, Result, ◌∙◌}
+use Rattle.std.proofs.Common.{◌≡◌, ℕ, List, [], ◌∷◌, ◌++◌, Ok, Err, Result, refl, ap, ◌∙◌}
 use Rattle.syntax.specs.declared.fault.GrammarFault.{GrammarFault}
+use Rattle.syntax.specs.declared.lexeme.Strength.{Strength}
+use Rattle.syntax.specs.declared.lexeme.Strength.TheVariants as strength
 use Rattle.syntax.specs.declared.reader.Reader.{Reader}
 use Rattle.text.specs.declared.token.Keyword.TheVariants as kw
 use Rattle.text.specs.declared.token.Symbol.TheVariants as sign
 use Rattle.syntax.specs.Entries as entry
-use Rattle.syntax.specs.Machine.{Goal, stmt, word, put, sym, block, arms, otherwise, condition, declarations, finish, program}
-use Rattle.syntax.specs.Readers.{Done, Reads, StatementDone, runs}
+use Rattle.syntax.specs.Machine.{Goal, stmt, word, put, sym, block, arms, otherwise, condition, declarations, finish, wants, right, more, program}
+use Rattle.syntax.specs.Readers.{Done, FirstDone, Reads, StatementDone, runs}
 
 pub stated : (l : ℕ) (r r' : Reader) (a : Result (Unit {0}) GrammarFault) → Done 0 0 (stmt l ∷ []) r r' a → StatementDone l r r' a
 stated l r r' (Ok u) d =
@@ -41,6 +43,19 @@ stated l r r' (Err x) d =
 pub same : (m c : ℕ) (gs hs : List Goal) (r r' : Reader) (a : Result (Unit {0}) GrammarFault) → ((k : List Goal) → runs r (hs ++ k) ≡ runs r (gs ++ k)) → Done m c gs r r' a → Done m c hs r r' a
 same m c gs hs r r' (Ok u) e d = (d.0, d.1, record { reads = λ k. e k ∙ d.2.reads k })
 same m c gs hs r r' (Err x) e d = (d.0, λ k. e k ∙ d.1 k)
+
+-- what stands left of the operators of a strength other than Sum is what may stand right of them
+wants_right : (s : Strength) → (s ≡ strength.Sum → ⊥) → (l : ℕ) (k : List Goal) → wants s l ++ k ≡ right s l ++ more s l ∷ k
+wants_right strength.Lor n l k = refl
+wants_right strength.Xor n l k = refl
+wants_right strength.Land n l k = refl
+wants_right strength.Relation n l k = refl
+wants_right strength.Sum n l k = absurd (n refl)
+wants_right strength.Term n l k = refl
+
+pub leftmost : (s : Strength) → (s ≡ strength.Sum → ⊥) → (l : ℕ) (r r' : Reader) (a : Result (Unit {0}) GrammarFault) → Done 0 1 (right s l) r r' a → FirstDone s l r r' a
+leftmost s n l r r' (Ok u) d = (d.0, d.1, λ k. ap (runs r) (wants_right s n l k) ∙ d.2.reads (more s l ∷ k))
+leftmost s n l r r' (Err x) d = (d.0, λ k. ap (runs r) (wants_right s n l k) ∙ d.1 (more s l ∷ k))
 
 -- the parts of a program one after the other
 module _ (r₀ r₁ r₂ r₃ r₄ : Reader) where

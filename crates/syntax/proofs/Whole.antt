@@ -1,22 +1,17 @@
 -- A whole source. Assumes nothing.
-use Rattle.std.proofs.Common.{◌≡◌, ℕ, ◌≤◌, Bool, true, false, cond, ltb, List, [], map, length, Ok, Err, vec_items, Result, Vec, sym as turned, refl, ap, ◌∙◌, arith}
+use Rattle.std.proofs.Common.{◌≡◌, ℕ, ◌≤◌, Bool, true, false, cond, ltb, List, [], length, Ok, Err, Result, sym as turned, refl, ap, ◌∙◌, arith}
 use Rattle.std.proofs.lemmas.Bool.{ltb-false}
-use Rattle.std.specs.declared.alloc.Global.{Global}
 use Rattle.words.specs.declared.refusal.Refusal.{Refusal}
 use Rattle.words.specs.Refusals.{refuse, then}
 use Rattle.text.specs.Cut.{Piece, left, texted}
 use Rattle.syntax.specs.declared.node.Node.{Node}
-use Rattle.syntax.specs.Entries.{Entry, entry_of, entries, written}
+use Rattle.syntax.specs.Entries.{Entry, entries}
 use Rattle.syntax.specs.Machine.{Parsed, behind, program}
 use Rattle.syntax.specs.Works.{parse, syntaxed}
 
-pub written_none : (v : Vec Node Global) → vec_items v ≡ [] → written v ≡ []
-unfolding written
-written_none v e = ap (map entry_of) e
-
-pub written_slice : (ns : List Node) (v : Vec Node Global) → ns ≡ vec_items v → entries ns ≡ written v
-unfolding written entries
-written_slice ns v e = ap (map entry_of) e
+pub entries_none : (ns : List Node) → ns ≡ [] → entries ns ≡ []
+unfolding entries
+entries_none ns e = ap entries e
 
 chosen : (b : Bool) (n : ℕ) (x : Result (List Piece) Refusal) (ts : List Piece) → ltb 32768 n ≡ b → cond b (refuse 1 32768) x ≡ Ok ts → n ≤ 32768
 chosen true n x ts b e = absurd (let z : ◌≡◌ {A = ℕ} 0 1 = cc in omega arith)

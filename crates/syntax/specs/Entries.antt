@@ -1,6 +1,5 @@
 -- The entries of a syntax list as definitions speak of them: a name is its bytes.
-use Rattle.std.specs.Prelude.{ℕ, List, map, vec_items, Vec}
-use Rattle.std.specs.declared.alloc.Global.{Global}
+use Rattle.std.specs.Prelude.{ℕ, List, map}
 use Rattle.text.specs.declared.token.Kind.{Kind}
 use Rattle.text.specs.Names.{name_of}
 use Rattle.syntax.specs.declared.node.Operator.{Operator}
@@ -91,6 +90,3 @@ entry_of node.Esac = Esac
 -- what a list of nodes says
 unfoldable pub entries : List Node → List Entry
 entries ns = map entry_of ns
-
-unfoldable pub written : Vec Node Global → List Entry
-written v = map entry_of (vec_items v)

@@ -1,15 +1,19 @@
 -- Tokens as the grammar looks at them, and the classes that it tells apart.
-use Rattle.std.specs.Prelude.{ℕ, ◌≤◌, Bool, true, false, cond, List, length, Some, None, Option, ◌==◌}
+use Rattle.std.specs.Prelude.{◌≡◌, ℕ, ◌-◌, ◌<◌, Bool, true, false, cond, List, Some, None, Ok, Err, Option, Result, ◌==◌, OnSome}
 use Rattle.text.specs.declared.token.Kind.{Kind}
 use Rattle.text.specs.declared.token.Kind.TheVariants as kind
 use Rattle.text.specs.declared.token.Keyword.{Keyword}
 use Rattle.text.specs.declared.token.Keyword.TheVariants as word
 use Rattle.text.specs.declared.token.Symbol.{Symbol}
 use Rattle.text.specs.declared.token.Symbol.TheVariants as sign
+use Rattle.text.specs.contracts.token.KeywordPartialEq.TheImpl as keyword_eq
+use Rattle.text.specs.contracts.token.SymbolPartialEq.TheImpl as symbol_eq
 use Rattle.text.specs.Names.{name_of}
 use Rattle.text.specs.Reserved.{keyword_of}
 use Rattle.text.specs.Cut.{Piece}
 use Rattle.text.specs.Cut as piece
+use Rattle.syntax.specs.declared.fault.GrammarFault.{GrammarFault}
+use Rattle.syntax.specs.declared.fault.GrammarFault.TheVariants.{TooDeep}
 use Rattle.syntax.specs.declared.node.Operator.{Operator}
 use Rattle.syntax.specs.declared.node.Operator.TheVariants as operator
 use Rattle.syntax.specs.declared.node.ShiftKind.{ShiftKind}
@@ -19,6 +23,7 @@ use Rattle.syntax.specs.declared.lexeme.Sort.TheVariants as sort
 use Rattle.syntax.specs.declared.lexeme.Lexeme.{Lexeme}
 use Rattle.syntax.specs.declared.lexeme.Strength.{Strength}
 use Rattle.syntax.specs.declared.lexeme.Strength.TheVariants as strength
+use Rattle.syntax.specs.contracts.lexeme.StrengthPartialEq.TheImpl as strength_eq
 use Rattle.syntax.specs.declared.lexeme.Opening.{Opening}
 use Rattle.syntax.specs.declared.lexeme.Opening.TheVariants as opening
 
@@ -56,12 +61,6 @@ seen (piece.word w p) = word_seen w p
 seen (piece.number w k v p) = record { sort = number k v; place = p }
 seen (piece.symbol s p) = record { sort = symbol s; place = p }
 
--- a word has at most 15 bytes
-abbrev pub Short : Piece → Type 0
-Short (piece.word w p) = length w ≤ 15
-Short (piece.number w k v p) = Unit {0}
-Short (piece.symbol s p) = Unit {0}
-
 -- the end of the text is no token
 abbrev pub live : Mark → ℕ
 live (keyword w) = 1
@@ -70,75 +69,44 @@ live (name n) = 1
 live (number k v) = 1
 live stop = 0
 
--- symbols and reserved words by number, to tell one from another
-abbrev pub sign_number : Symbol → ℕ
-sign_number sign.Becomes = 0
-sign_number sign.Unequal = 1
-sign_number sign.AtMost = 2
-sign_number sign.AtLeast = 3
-sign_number sign.Semicolon = 4
-sign_number sign.Comma = 5
-sign_number sign.Dot = 6
-sign_number sign.Open = 7
-sign_number sign.Close = 8
-sign_number sign.Colon = 9
-sign_number sign.Equal = 10
-sign_number sign.Less = 11
-sign_number sign.Greater = 12
-sign_number sign.Plus = 13
-sign_number sign.Minus = 14
-sign_number sign.Times = 15
-sign_number sign.Divide = 16
-sign_number sign.Ampersand = 17
+-- symbols, reserved words and strengths are told apart as their derived `==` does
+abbrev pub same_symbol : Symbol → Symbol → Bool
+same_symbol = symbol_eq.ghosts.eq
 
-abbrev pub word_number : Keyword → ℕ
-word_number word.Begin = 0
-word_number word.End = 1
-word_number word.Integer = 2
-word_number word.Logical = 3
-word_number word.Array = 4
-word_number word.If = 5
-word_number word.Then = 6
-word_number word.Else = 7
-word_number word.Case = 8
-word_number word.Of = 9
-word_number word.While = 10
-word_number word.Do = 11
-word_number word.Until = 12
-word_number word.For = 13
-word_number word.Step = 14
-word_number word.Or = 15
-word_number word.And = 16
-word_number word.Mod = 17
-word_number word.Lnot = 18
-word_number word.Land = 19
-word_number word.Xor = 20
-word_number word.Lor = 21
-word_number word.Lsl = 22
-word_number word.Lsr = 23
-word_number word.Asr = 24
-word_number word.Csl = 25
-word_number word.Csr = 26
-word_number word.True = 27
-word_number word.False = 28
-word_number word.Comment = 29
+abbrev pub same_keyword : Keyword → Keyword → Bool
+same_keyword = keyword_eq.ghosts.eq
+
+abbrev pub same_strength : Strength → Strength → Bool
+same_strength = strength_eq.ghosts.eq
 
 -- this symbol, this reserved word
 abbrev pub is_symbol : Symbol → Mark → Bool
-is_symbol s (symbol x) = sign_number s == sign_number x
+is_symbol s (symbol x) = same_symbol s x
 is_symbol s (keyword w) = false
 is_symbol s (name n) = false
 is_symbol s (number k v) = false
 is_symbol s stop = false
 
 abbrev pub is_keyword : Keyword → Mark → Bool
-is_keyword w (keyword x) = word_number w == word_number x
+is_keyword w (keyword x) = same_keyword w x
 is_keyword w (symbol s) = false
 is_keyword w (name n) = false
 is_keyword w (number k v) = false
 is_keyword w stop = false
 
--- a decimal number; a type's name; a name
+-- the reserved word that a mark is; what a class of reserved words answers there
+abbrev pub word_at : Mark → Option Keyword
+word_at (keyword w) = Some w
+word_at (symbol s) = None
+word_at (name n) = None
+word_at (number k v) = None
+word_at stop = None
+
+abbrev pub and_then : {A : Type 0} → (Keyword → Option A) → Option Keyword → Option A
+and_then f None = None
+and_then f (Some w) = f w
+
+-- a decimal number; a name
 abbrev pub decimal_of : Mark → Option ℕ
 decimal_of (number kind.Integer v) = Some v
 decimal_of (number kind.Logical v) = None
@@ -340,18 +308,10 @@ opening_word word.False = None
 opening_word word.Comment = None
 
 abbrev pub kind_of : Mark → Option Kind
-kind_of (keyword w) = kind_word w
-kind_of (symbol s) = None
-kind_of (name n) = None
-kind_of (number k v) = None
-kind_of stop = None
+kind_of m = and_then kind_word (word_at m)
 
 abbrev pub shift_of : Mark → Option ShiftKind
-shift_of (keyword w) = shift_word w
-shift_of (symbol s) = None
-shift_of (name n) = None
-shift_of (number k v) = None
-shift_of stop = None
+shift_of m = and_then shift_word (word_at m)
 
 abbrev pub operator_of : Mark → Option Operator
 operator_of (keyword w) = operator_word w
@@ -373,11 +333,7 @@ literal_of (name n) = None
 literal_of stop = None
 
 abbrev pub opening_of : Mark → Option Opening
-opening_of (keyword w) = opening_word w
-opening_of (symbol s) = None
-opening_of (name n) = None
-opening_of (number k v) = None
-opening_of stop = None
+opening_of m = and_then opening_word (word_at m)
 
 abbrev pub is_stop : Mark → Bool
 is_stop stop = true
@@ -403,18 +359,19 @@ strength_of operator.Land = strength.Land
 strength_of operator.Xor = strength.Xor
 strength_of operator.Lor = strength.Lor
 
-abbrev pub rank_of : Strength → ℕ
-rank_of strength.Lor = 0
-rank_of strength.Xor = 1
-rank_of strength.Land = 2
-rank_of strength.Relation = 3
-rank_of strength.Sum = 4
-rank_of strength.Term = 5
-
 -- an operator of this strength
 abbrev pub kept : Strength → Option Operator → Option Operator
 kept s None = None
-kept s (Some o) = cond (rank_of s == rank_of (strength_of o)) (Some o) None
+kept s (Some o) = cond (same_strength s (strength_of o)) (Some o) None
 
 abbrev pub operator_at : Strength → Mark → Option Operator
 operator_at s m = kept s (operator_of m)
+
+-- A class answers so at a token: and the end of the text is in no class.
+abbrev pub Classed : {A : Type 0} → (Mark → Option A) → Lexeme → Option A → Type 0
+Classed class x r = (r ≡ class (mark_of x.sort)) × OnSome r (live (mark_of x.sort) ≡ 1)
+
+-- a level is opened by the token: so many are left then, or it is one too many
+abbrev pub Opened : Lexeme → (l : ℕ) → Result ℕ GrammarFault → Type 0
+Opened x l (Ok n) = ((l == 0) ≡ false) × (l - 1 ≡ n) × (n < l)
+Opened x l (Err e) = ((l == 0) ≡ true) × (e ≡ TooDeep x.place)

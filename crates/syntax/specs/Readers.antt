@@ -1,18 +1,21 @@
 -- What the readers ask and leave.
-use Rattle.std.specs.Prelude.{◌≡◌, ℕ, ◌+◌, ◌*◌, ◌<◌, ◌≤◌, Bool, true, false, List, ◌∷◌, ◌++◌, length, Some, None, Ok, Err, vec_len, vec_capacity, Option, Result}
+use Rattle.std.specs.Prelude.{◌≡◌, ℕ, ◌+◌, ◌*◌, ◌≤◌, Bool, true, false, List, ◌∷◌, ◌++◌, length, Some, None, Ok, Err, Option, Result}
 use Rattle.syntax.specs.declared.fault.GrammarFault.{GrammarFault}
 use Rattle.syntax.specs.declared.fault.GrammarFault.TheVariants.{Unexpected}
 use Rattle.syntax.specs.declared.lexeme.Strength.{Strength}
+use Rattle.syntax.specs.declared.node.TheConstants.{ROOM}
+use Rattle.syntax.specs.declared.lexeme.PlacedName.{PlacedName}
+use Rattle.syntax.specs.declared.reader.Range.{Range}
 use Rattle.syntax.specs.declared.reader.Reader.{Reader}
-use Rattle.text.specs.declared.name.Name.{Name}
+use Rattle.text.specs.declared.token.Kind.{Kind}
 use Rattle.text.specs.declared.token.Symbol.TheVariants as sign
 use Rattle.text.specs.Names.{name_of}
 use Rattle.syntax.specs.Faults.{refusal_of}
-use Rattle.syntax.specs.Entries.{Entry, written}
+use Rattle.syntax.specs.Entries.{Entry, entries}
 use Rattle.syntax.specs.Entries as entry
 use Rattle.text.specs.declared.token.Keyword.TheVariants as kw
 use Rattle.syntax.specs.Marks.{mark_of, tok_of, live, decimal_of, spelled_of}
-use Rattle.syntax.specs.Machine.{Goal, Use, Parsed, sym as symbol, word, put, bits, more, stmt, block, arms, otherwise, condition, used, wants, program, feed, behind}
+use Rattle.syntax.specs.Machine.{Goal, Use, Parsed, sym as symbol, word, put, bits, low, more, stmt, block, arms, otherwise, condition, used, wants, program, feed, behind}
 
 -- the bytes left to read, one more for the token ahead
 abbrev pub weight : Reader → ℕ
@@ -20,24 +23,23 @@ weight r = length r.rest.now + live (mark_of r.ahead.sort)
 
 -- the machine with these goals, from the token ahead, and from the one after it
 abbrev pub onward : Reader → List Goal → Parsed
-onward r gs = behind r.end r.rest.now gs (written r.out.now)
+onward r gs = behind r.end r.rest.now gs (entries r.out.now)
 
 abbrev pub runs : Reader → List Goal → Parsed
-runs r gs = feed (tok_of r.ahead) (behind r.end r.rest.now) gs (written r.out.now)
+runs r gs = feed (tok_of r.ahead) (behind r.end r.rest.now) gs (entries r.out.now)
 
--- a token pays for two entries; m more are paid for
+-- what a reader's type says, and m entries more are paid for
 abbrev pub Ready : ℕ → Reader → Type 0
-Ready m r = vec_len r.out.now + 2 * weight r + m ≤ vec_capacity r.out.now
+Ready m r = length r.out.now + 2 * weight r + m ≤ ROOM
 
 -- what stays whatever comes
 pub record Kept (r r' : Reader) : Type 0 where
   pub end : r'.end ≡ r.end
   pub loan : r'.out.ghost_name ≡ r.out.ghost_name
-  pub cap : vec_capacity r'.out.now ≡ vec_capacity r.out.now
 
 -- of what was paid for, m before and two for each token read, c entries are left
 pub record Fits (m c : ℕ) (r r' : Reader) : Type 0 where
-  pub room : vec_len r'.out.now + 2 * weight r' + c ≤ vec_len r.out.now + 2 * weight r + m
+  pub room : length r'.out.now + 2 * weight r' + c ≤ length r.out.now + 2 * weight r + m
   pub less : weight r' ≤ weight r
 
 -- the goals were read, whatever comes below them
@@ -54,7 +56,7 @@ Done m c gs r r' (Err e) = Kept r r' × Refused gs r e
 -- the next token is ahead
 pub record Advanced (r r' : Reader) : Type 0 where
   pub kept : Kept r r'
-  pub len : vec_len r'.out.now ≡ vec_len r.out.now
+  pub len : length r'.out.now ≡ length r.out.now
   pub less : weight r' ≤ length r.rest.now
   pub reads : (k : List Goal) → onward r k ≡ runs r' k
 
@@ -70,25 +72,30 @@ pub record Missed {A : Type 0} (sought : Option A) (e : GrammarFault) (r r' : Re
   pub fault : e ≡ Unexpected r.ahead.place
   pub kept : Kept r r'
 
+abbrev pub Taken : (here : Bool) → Reader → Reader → Result (Unit {0}) GrammarFault → Type 0
+Taken here r r' (Ok u) = (here ≡ true) × Advanced r r'
+Taken here r r' (Err e) = (here ≡ false) × (e ≡ Unexpected r.ahead.place) × Kept r r'
+
 abbrev pub DecimalTaken : Reader → Reader → Result (ℕ × ℕ) GrammarFault → Type 0
 DecimalTaken r r' (Ok x) = Took (decimal_of (mark_of r.ahead.sort)) x.0 x.1 r r'
 DecimalTaken r r' (Err e) = Missed (decimal_of (mark_of r.ahead.sort)) e r r'
 
-abbrev pub NameTaken : Reader → Reader → Result (Name × ℕ) GrammarFault → Type 0
-NameTaken r r' (Ok x) = Took (spelled_of (mark_of r.ahead.sort)) (name_of x.0) x.1 r r'
+abbrev pub NameTaken : Reader → Reader → Result PlacedName GrammarFault → Type 0
+NameTaken r r' (Ok n) = Took (spelled_of (mark_of r.ahead.sort)) (name_of n.name) n.place r r'
 NameTaken r r' (Err e) = Missed (spelled_of (mark_of r.ahead.sort)) e r r'
 
--- the numbers of a field with their parentheses, whatever they are for
-abbrev pub RangeDone : Reader → Reader → Result (ℕ × ℕ × ℕ) GrammarFault → Type 0
-RangeDone r r' (Ok x) =
-    Kept r r' × Fits 0 2 r r' × ((u : Use) (k : List Goal) → runs r (symbol sign.Open ∷ bits u ∷ k) ≡ runs r' (used u x.0 x.1 x.2 k))
-RangeDone r r' (Err e) = Kept r r' × ((u : Use) (k : List Goal) → runs r (symbol sign.Open ∷ bits u ∷ k) ≡ Err (refusal_of e))
+-- two numbers in parentheses, whether they are a field's, whatever that is for, or an array's bounds
+pub record Ranged (x : Range) (r r' : Reader) : Type 0 where
+  pub field : (u : Use) (k : List Goal) → runs r (symbol sign.Open ∷ bits u ∷ k) ≡ runs r' (used u x.first x.second x.place k)
+  pub bounds : (c : Kind) (n : List ℕ) (p : ℕ) (k : List Goal) → runs r (symbol sign.Open ∷ low c n p ∷ k) ≡ runs r' (put (entry.Array n c x.first x.second p x.place) ∷ k)
 
--- a goal that may be met again and again was met once more and waits again; or it is dropped
-abbrev pub AgainDone : Goal → Reader → Reader → Result Bool GrammarFault → Type 0
-AgainDone g r r' (Ok true) = Kept r r' × Fits 0 0 r r' × (weight r' < weight r) × ((k : List Goal) → runs r (g ∷ k) ≡ runs r' (g ∷ k))
-AgainDone g r r' (Ok false) = Kept r r' × Fits 0 0 r r' × ((k : List Goal) → runs r (g ∷ k) ≡ runs r' k)
-AgainDone g r r' (Err e) = Kept r r' × ((k : List Goal) → runs r (g ∷ k) ≡ Err (refusal_of e))
+pub record Unranged (r : Reader) (e : GrammarFault) : Type 0 where
+  pub field : (u : Use) (k : List Goal) → runs r (symbol sign.Open ∷ bits u ∷ k) ≡ Err (refusal_of e)
+  pub bounds : (c : Kind) (n : List ℕ) (p : ℕ) (k : List Goal) → runs r (symbol sign.Open ∷ low c n p ∷ k) ≡ Err (refusal_of e)
+
+abbrev pub RangeDone : Reader → Reader → Result Range GrammarFault → Type 0
+RangeDone r r' (Ok x) = Kept r r' × Fits 0 2 r r' × Ranged x r r'
+RangeDone r r' (Err e) = Kept r r' × Unranged r e
 
 -- of an operand of this strength all is read up to the first operator
 abbrev pub FirstDone : Strength → (l : ℕ) → Reader → Reader → Result (Unit {0}) GrammarFault → Type 0
@@ -120,7 +127,7 @@ StatementDone l r r' (Err e) = Kept r r' × Unstated l r e
 
 -- the whole program
 abbrev pub ProgramDone : Reader → Reader → Result (Unit {0}) GrammarFault → Type 0
-ProgramDone r r' (Ok u) = Kept r r' × (runs r program ≡ Ok (written r'.out.now))
+ProgramDone r r' (Ok u) = Kept r r' × (runs r program ≡ Ok (entries r'.out.now))
 ProgramDone r r' (Err e) = Kept r r' × (runs r program ≡ Err (refusal_of e))
 
 -- a text read as a program, after the entries o

@@ -5,7 +5,7 @@ use Rattle.text.specs.Cut.{Piece, texted}
 use Rattle.syntax.specs.declared.fault.GrammarFault.{GrammarFault}
 use Rattle.syntax.specs.declared.workspace.Workspace.{Workspace}
 use Rattle.syntax.specs.Faults.{refusal_of}
-use Rattle.syntax.specs.Entries.{Entry, written}
+use Rattle.syntax.specs.Entries.{Entry, entries}
 use Rattle.syntax.specs.Machine.{Parsed, later, program}
 
 -- the tokens of a source of this length as a program
@@ -18,7 +18,7 @@ syntaxed source = then (texted source) (parse (length source))
 
 -- the list that a workspace holds
 abbrev pub list_of : Workspace → List Entry
-list_of w = written w.nodes
+list_of w = entries w.nodes
 
 -- the list is the source's; or the source is refused so, and the list is empty
 abbrev pub Read : List ℕ → Workspace → Result (Unit {0}) GrammarFault → Type 0

@@ -4,14 +4,18 @@ ghost use Rattle.syntax.specs.declared.fault.GrammarFault.TheVariants.{Text};
 ghost use Rattle.syntax.specs.Faults.{refusal_of};
 
 use text::fault::TextFault;
+use thiserror::Error;
 use words::refusal::Refusal;
 
-#[derive(Clone, Copy)]
+#[derive(Clone, Copy, PartialEq, Eq, Debug, Error)]
 pub enum GrammarFault {
+    #[error(transparent)]
     Text(TextFault),
-    // with the token at this place, or at its end, the source begins no program
+    // with the token at this place, or at its end
+    #[error("no program begins so, up to and with this token")]
     Unexpected(usize),
-    // level 33 is opened at this place
+    // at this place
+    #[error("level 33 is opened here")]
     TooDeep(usize),
 }
 
@@ -23,20 +27,14 @@ impl From<TextFault> for GrammarFault {
     }
 }
 
-impl GrammarFault {
-    pub fn refusal(&self) -> Refusal
-        ensures { result ≡ refusal_of self.now }
-    {
-        match self {
-            GrammarFault::Text(e) => e.refusal(),
-            GrammarFault::Unexpected(p) => Refusal {
-                number: 5,
-                place: *p,
-            },
-            GrammarFault::TooDeep(p) => Refusal {
-                number: 6,
-                place: *p,
-            },
+impl From<GrammarFault> for Refusal {
+    ghost from_gives = { λ e r. r ≡ refusal_of e };
+
+    fn from(e: GrammarFault) -> Refusal {
+        match e {
+            GrammarFault::Text(e) => Refusal::from(e),
+            GrammarFault::Unexpected(place) => Refusal { number: 5, place },
+            GrammarFault::TooDeep(place) => Refusal { number: 6, place },
         }
     }
 }

@@ -1,7 +1,10 @@
 // A token as the grammar looks at it: a reserved word, a symbol, a name or a number, or the end of the text.
+ghost use Rattle.std.specs.Prelude.{◌≡◌};
+
 use text::name::Name;
 use text::token::{Keyword, Kind, Symbol};
 
+// No `PartialEq`: a name has none.
 #[derive(Clone, Copy)]
 pub enum Sort {
     Keyword(Keyword),
@@ -18,8 +21,15 @@ pub struct Lexeme {
     pub place: usize,
 }
 
-// The strength of a binary operator, from the weakest.
+// A name, and its place.
 #[derive(Clone, Copy)]
+pub(crate) struct PlacedName {
+    pub name: Name,
+    pub place: usize,
+}
+
+// The strength of a binary operator, from the weakest.
+#[derive(Clone, Copy, PartialEq, Eq, Debug)]
 pub enum Strength {
     Lor,
     Xor,
@@ -30,7 +40,7 @@ pub enum Strength {
 }
 
 // What a reserved word opens where a statement may begin.
-#[derive(Clone, Copy)]
+#[derive(Clone, Copy, PartialEq, Eq, Debug)]
 pub enum Opening {
     // BEGIN
     Block,
@@ -44,4 +54,12 @@ pub enum Opening {
     Behind,
     // FOR
     Counted,
+}
+
+impl Lexeme {
+    pub(crate) fn new(sort: Sort, place: usize) -> Lexeme
+        ensures { result ≡ record { sort = sort; place = place } }
+    {
+        Lexeme { sort, place }
+    }
 }

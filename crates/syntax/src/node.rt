@@ -1,8 +1,15 @@
 // The syntax list: a source in written order, operands before their operator, with plain markers for control.
 use text::name::Name;
 use text::token::Kind;
+use words::reserved::Reserved;
 
-#[derive(Clone, Copy)]
+// Room for two entries for each byte of the longest source.
+pub(crate) const ROOM: usize = 65536;
+
+// The list as it is written.
+pub(crate) type Nodes = Reserved<Node, ROOM>;
+
+#[derive(Clone, Copy, PartialEq, Eq, Debug)]
 pub enum Operator {
     Times,
     Divide,
@@ -20,7 +27,7 @@ pub enum Operator {
     Lor,
 }
 
-#[derive(Clone, Copy)]
+#[derive(Clone, Copy, PartialEq, Eq, Debug)]
 pub enum ShiftKind {
     Lsl,
     Lsr,
@@ -29,7 +36,8 @@ pub enum ShiftKind {
     Csr,
 }
 
-// One entry of the list. A `usize` is a place in the source, which a later refusal may name.
+// One entry of the list. A `usize` is a place in the source, which a later refusal may name. No `PartialEq`: a name has
+// none.
 #[derive(Clone, Copy)]
 pub enum Node {
     // name, type, place

@@ -1,8 +1,9 @@
 // The next token of a text, as the grammar looks at it.
 ghost use Rattle.std.specs.Prelude.{◌≡◌, ◌+◌, ◌≤◌, List, length};
-ghost use Rattle.text.specs.Cut.{piece};
+ghost use Rattle.text.specs.Cut.{piece, Short};
+ghost use Rattle.text.specs.Reserved.{keyword_of};
 ghost use Rattle.syntax.specs.Entries.{Entry};
-ghost use Rattle.syntax.specs.Marks.{mark_of, tok_of, seen, word_seen, live, Short};
+ghost use Rattle.syntax.specs.Marks.{mark_of, tok_of, seen, worded, live};
 ghost use Rattle.syntax.specs.Machine.{Goal, feed, behind};
 
 use crate::lexeme::{Lexeme, Sort};
@@ -11,42 +12,25 @@ use text::reserved::keyword;
 use text::scan::peek;
 use text::token::Token;
 
-fn word(bytes: &[u8], place: usize) -> Lexeme
+fn word(bytes: &[u8]) -> Sort
     requires { length bytes.now ≤ 15 }
-    ensures { tok_of result ≡ word_seen bytes.now place }
+    ensures { mark_of result ≡ worded bytes.now (keyword_of bytes.now) }
 {
-    if let Some(w) = keyword(bytes) {
-        return Lexeme {
-            sort: Sort::Keyword(w),
-            place,
-        };
-    }
-    match Name::new(bytes) {
-        Some(n) => Lexeme {
-            sort: Sort::Name(n),
-            place,
-        },
-        None => Lexeme {
-            sort: Sort::Stop,
-            place,
-        },
+    match keyword(bytes) {
+        Some(w) => Sort::Keyword(w),
+        None => Sort::Name(Name::new(bytes).unwrap()),
     }
 }
 
+// A function and no `From`, since a token's type does not say that its word is short.
 fn lexeme(t: Token<'_>) -> Lexeme
     requires { Short (piece t) }
     ensures { tok_of result ≡ seen (piece t.entry) }
 {
     match t {
-        Token::Word(bytes, place) => word(bytes, place),
-        Token::Number(_, kind, v, place) => Lexeme {
-            sort: Sort::Number(kind, v),
-            place,
-        },
-        Token::Symbol(s, place) => Lexeme {
-            sort: Sort::Symbol(s),
-            place,
-        },
+        Token::Word(bytes, place) => Lexeme::new(word(bytes), place),
+        Token::Number(_, kind, v, place) => Lexeme::new(Sort::Number(kind, v), place),
+        Token::Symbol(s, place) => Lexeme::new(Sort::Symbol(s), place),
     }
 }
 
@@ -57,12 +41,6 @@ pub(crate) fn scan<'a>(text: &'a [u8], end: usize) -> (Lexeme, &'a [u8])
 {
     match peek(text, end) {
         Some((t, after)) => (lexeme(t), after),
-        None => (
-            Lexeme {
-                sort: Sort::Stop,
-                place: end,
-            },
-            text,
-        ),
+        None => (Lexeme::new(Sort::Stop, end), text),
     }
 }

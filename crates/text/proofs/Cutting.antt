@@ -8,14 +8,11 @@ use Rattle.words.specs.Refusals.{refuse}
 use Rattle.text.specs.declared.token.Token.{Token}
 use Rattle.text.specs.declared.fault.TextFault.{TextFault}
 use Rattle.text.specs.declared.token.Symbol.{Symbol}
-use Rattle.text.specs.declared.scan.Start.{Start}
-use Rattle.text.specs.declared.scan.Start.TheVariants.{Letter, Decimal, Percent, Comment, Other}
 use Rattle.text.specs.declared.token.Kind.{Kind}
 use Rattle.text.specs.declared.token.Kind.TheVariants.{Integer, Logical}
-use Rattle.text.specs.declared.scan.Class.TheVariants.{WordByte}
-use Rattle.text.specs.declared.scan.Class.{Class}
-use Rattle.text.proofs.Signs.{Stands, sign_stands, symbol_long}
-use Rattle.text.specs.Lexemes.{capital, digit, opens, symbol_text, start_of, sign_of, passes, digit_of, base_of, most_of, value_of, within, gap_of}
+use Rattle.text.proofs.FirstBytes.{symbol_long}
+use Rattle.text.proofs.Signs.{Stands, sign_stands}
+use Rattle.text.specs.Lexemes.{Start, Letter, Decimal, Percent, Comment, Other, capital, digit, opens, symbol_text, start_of, sign_of, word_byte, digit_of, base_of, most_of, value_of, within, gap_of}
 use Rattle.text.specs.Faults.{refusal_of}
 use Rattle.text.specs.Cut.{Cut, Next, Short, fronted, onward, width_of, after, first_of, piece, Piece, word, lexed, word_of, symbol_of, Front, good, nexted, next_of, Steps, number_of, valued, past, lexeme, cut, left, fault}
 
@@ -41,18 +38,16 @@ past_more (b ∷ bs) (suc k) e h =
     rw (g, f, past_skips k bs)
 
 -- a number of n digits, as the code finds it
-module _ (p lead n : ℕ) (kind : Kind) (class : Class) (xs : List ℕ) (ce : class ≡ digit_of kind) (ne : n ≡ prefix_len (passes class) (take (length xs - lead) (drop lead xs))) where
-  run : prefix_len (passes (digit_of kind)) (drop lead xs) ≡ n
-  run = rw (← ce, ← take_rest xs lead) (sym ne)
+module _ (p lead n : ℕ) (kind : Kind) (xs : List ℕ) (ne : n ≡ prefix_len (digit_of kind) (take (length xs - lead) (drop lead xs))) where
+  run : prefix_len (digit_of kind) (drop lead xs) ≡ n
+  run = rw (← take_rest xs lead) (sym ne)
 
-  pub number_none : n ≡ 0 → refuse 3 p ≡ number_of p lead (prefix_len (passes (digit_of kind)) (drop lead xs)) kind xs
+  pub number_none : n ≡ 0 → refuse 3 p ≡ number_of p lead (prefix_len (digit_of kind) (drop lead xs)) kind xs
   number_none z = rw (run, z)
 
-  pub number_valued : (o : Option ℕ) → (n ≡ 0 → ⊥) → o ≡ within (most_of kind) (value_of (base_of kind) 0 (take (n - 0) (take (length xs - lead) (drop lead xs)))) →
-      valued p (lead + n) kind xs o ≡ number_of p lead (prefix_len (passes (digit_of kind)) (drop lead xs)) kind xs
-  number_valued o z e =
-      let f : n - 0 ≡ n = omega arith in
-      rw (run, ne_eqb n 0 z) (ap (valued p (lead + n) kind xs) (e ∙ rw (f, take_rest xs lead)))
+  pub number_valued : (o : Option ℕ) → (n ≡ 0 → ⊥) → o ≡ within (most_of kind) (value_of (base_of kind) 0 (take n (take (length xs - lead) (drop lead xs)))) →
+      valued p (lead + n) kind xs o ≡ number_of p lead (prefix_len (digit_of kind) (drop lead xs)) kind xs
+  number_valued o z e = rw (run, ne_eqb n 0 z) (ap (valued p (lead + n) kind xs) (e ∙ rw (take_rest xs lead)))
 
 pub lexeme_by : (p : ℕ) (xs : List ℕ) (st : Start) → st ≡ start_of xs → lexed p xs st ≡ lexeme p xs
 unfolding lexeme
@@ -98,15 +93,15 @@ starts b bs =
     (λ f. cond_both (eqb b 37) Percent _ (Starts b bs) (λ g. eqb-true b 37 g)
     (λ g. cond_both (opens (b ∷ bs)) Comment Other (Starts b bs) (λ h. h) (λ h. (e, f, eqb-false b 37 g, h)))))
 
-letter_first : (xs : List ℕ) → start_of xs ≡ Letter → 0 < prefix_len (passes WordByte) xs
-letter_first [] e = absurd (let z : ◌≡◌ {A = ℕ} 0 1 = cc in omega arith)
+letter_first : (xs : List ℕ) → start_of xs ≡ Letter → 0 < prefix_len word_byte xs
+letter_first [] e = cc
 letter_first (b ∷ bs) e = let c : capital b ≡ true = subst (Starts b bs) e (starts b bs) in rw c (omega arith)
 
 lexed_wide : (p : ℕ) (xs : List ℕ) (st : Start) → start_of xs ≡ st → Wide (length xs) (lexed p xs st)
-lexed_wide p xs Letter e = word_wide p (prefix_len (passes WordByte) xs) xs (letter_first xs e) (prefix_len-le-length (passes WordByte) xs)
-lexed_wide p xs Decimal e = number_wide p 0 (prefix_len (passes (digit_of Integer)) xs) Integer xs (omega (arith, prefix_len-le-length (passes (digit_of Integer)) xs))
-lexed_wide p [] Percent e = absurd (let z : ◌≡◌ {A = ℕ} 0 1 = cc in omega arith)
-lexed_wide p (b ∷ bs) Percent e = number_wide p 1 (prefix_len (passes (digit_of Logical)) bs) Logical (b ∷ bs) (omega (arith, prefix_len-le-length (passes (digit_of Logical)) bs))
+lexed_wide p xs Letter e = word_wide p (prefix_len word_byte xs) xs (letter_first xs e) (prefix_len-le-length word_byte xs)
+lexed_wide p xs Decimal e = number_wide p 0 (prefix_len (digit_of Integer) xs) Integer xs (omega (arith, prefix_len-le-length (digit_of Integer) xs))
+lexed_wide p [] Percent e = cc
+lexed_wide p (b ∷ bs) Percent e = number_wide p 1 (prefix_len (digit_of Logical) bs) Logical (b ∷ bs) (omega (arith, prefix_len-le-length (digit_of Logical) bs))
 lexed_wide p xs Comment e = tt
 lexed_wide p xs Other e = sign_wide p xs (sign_of xs) (sign_stands xs)
 
@@ -140,10 +135,10 @@ short_symbol p (Some f) = tt
 
 lexed_short : (p : ℕ) (xs : List ℕ) (st : Start) → ShortFront (lexed p xs st)
 lexed_short p xs Letter =
-    let n = prefix_len (passes WordByte) xs in
+    let n = prefix_len word_byte xs in
     cond_both (leb n 15) (good (word (take n xs) p) n) (refuse 3 p) ShortFront (λ e. omega (arith, leb-true n 15 e, length-take n xs)) (λ e. tt)
-lexed_short p xs Decimal = short_number p 0 (prefix_len (passes (digit_of Integer)) (drop 0 xs)) Integer xs
-lexed_short p xs Percent = short_number p 1 (prefix_len (passes (digit_of Logical)) (drop 1 xs)) Logical xs
+lexed_short p xs Decimal = short_number p 0 (prefix_len (digit_of Integer) (drop 0 xs)) Integer xs
+lexed_short p xs Percent = short_number p 1 (prefix_len (digit_of Logical) (drop 1 xs)) Logical xs
 lexed_short p xs Comment = tt
 lexed_short p xs Other = short_symbol p (sign_of xs)
 
@@ -179,18 +174,18 @@ cut_skips end zero bs = refl
 cut_skips end (suc k) [] = refl
 cut_skips end (suc k) (b ∷ bs) = cut_skips end k bs
 
+pub dropped : (b : ℕ) (bs : List ℕ) (n : ℕ) → 0 < n → drop (n - 1) bs ≡ drop n (b ∷ bs)
+dropped b bs zero h = absurd (omega arith)
+dropped b bs (suc k) h = let e : suc k - 1 ≡ k = omega arith in rw e
+
 -- the cut by what stands at the front
 cut_front : (end : ℕ) (xs : List ℕ) (f : Front) → gap_of xs ≡ 0 → (length xs ≡ 0 → ⊥) → lexeme (end - length xs) xs ≡ f → Wide (length xs) f → cut end 0 xs ≡ onward f (cut end 0 (drop (width_of f) xs))
 unfolding cut
 cut_front end [] f g l e w = absurd (l refl)
 cut_front end (b ∷ bs) (Err r) g l e w = rw (g, e)
 cut_front end (b ∷ bs) (Ok f) g l e w =
-    let n : drop (f.1 - 1) bs ≡ drop f.1 (b ∷ bs) = dropped f.1 w.0 in
+    let n = dropped b bs f.1 w.0 in
     rw (g, e) (ap (onward (Ok f)) (cut_skips end (f.1 - 1) bs ∙ ap (cut end 0) n))
-  where
-    dropped : (k : ℕ) → 0 < k → drop (k - 1) bs ≡ drop k (b ∷ bs)
-    dropped zero h = absurd (omega arith)
-    dropped (suc k) h = let e : suc k - 1 ≡ k = omega arith in rw e
 
 -- what `next` says of the tokens that are left
 pub first_is : (end : ℕ) (bs xs : List ℕ) → xs ≡ past 0 bs → (length xs ≡ 0 → ⊥) → next_of end bs ≡ after xs (lexeme (end - length xs) xs)

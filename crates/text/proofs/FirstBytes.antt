@@ -1,15 +1,11 @@
 -- What has the form of a token, by its first byte. Assumes nothing.
-use Rattle.std.proofs.Common.{◌≡◌, ℕ, ◌+◌, ◌<◌, ◌≤◌, true, false, cond, eqb, leb, List, [], ◌∷◌, ◌++◌, length, take, sym, refl, ap, ◌∙◌, subst, inl, inr, ⊎_elim, one-add, arith}
+use Rattle.std.proofs.Common.{Bool, ◌≡◌, ℕ, ◌+◌, ◌<◌, ◌≤◌, true, false, cond, eqb, leb, List, [], ◌∷◌, ◌++◌, length, take, sym, refl, ap, ◌∙◌, subst, inl, inr, ⊎_elim, one-add, arith}
 use Rattle.std.proofs.lemmas.Bool.{cases_Bool, or_from, ne_eqb, and_parts, and_left, leb-true, lt-leb, cond_both, eqb-true}
 use Rattle.std.specs.List.{prefix_len}
 use Rattle.text.specs.declared.token.Symbol.{Symbol}
 use Rattle.text.specs.declared.token.Symbol.TheVariants as sym·
-use Rattle.text.specs.declared.scan.Start.{Start}
-use Rattle.text.specs.declared.scan.Start.TheVariants.{Letter, Decimal, Percent, Comment, Other}
-use Rattle.text.specs.declared.scan.Class.{Class}
-use Rattle.text.specs.Lexemes.{blank, capital, digit, passes, opens, symbol_text}
+use Rattle.text.specs.Lexemes.{Start, Letter, Decimal, Percent, Comment, Other, blank, capital, digit, opens, symbol_text}
 use Rattle.text.specs.Forms.{AllOf, WordForm, IntegerForm, LogicalForm, SymbolForm, Form}
-use Rattle.text.proofs.Signs.{symbol_long}
 
 -- what the first byte says
 abbrev pub kind_of : ℕ → Start
@@ -39,35 +35,43 @@ FormAs Percent w = LogicalForm w
 FormAs Comment w = ⊥
 FormAs Other w = SymbolForm w
 
-abbrev pub HeadOther : List ℕ → Type 0
-HeadOther [] = ⊥
-HeadOther (b ∷ bs) = kind_of b ≡ Other
+-- a symbol has a first byte, which is none of a letter, a digit, `%` and a blank
+abbrev pub Head : List ℕ → Type 0
+Head [] = ⊥
+Head (b ∷ bs) = (kind_of b ≡ Other) × (blank b ≡ false)
 
-pub symbol_other : (s : Symbol) → HeadOther (symbol_text s)
-symbol_other sym·.Becomes = refl
-symbol_other sym·.Unequal = refl
-symbol_other sym·.AtMost = refl
-symbol_other sym·.AtLeast = refl
-symbol_other sym·.Semicolon = refl
-symbol_other sym·.Comma = refl
-symbol_other sym·.Dot = refl
-symbol_other sym·.Open = refl
-symbol_other sym·.Close = refl
-symbol_other sym·.Colon = refl
-symbol_other sym·.Equal = refl
-symbol_other sym·.Less = refl
-symbol_other sym·.Greater = refl
-symbol_other sym·.Plus = refl
-symbol_other sym·.Minus = refl
-symbol_other sym·.Times = refl
-symbol_other sym·.Divide = refl
-symbol_other sym·.Ampersand = refl
+pub symbol_head : (s : Symbol) → Head (symbol_text s)
+symbol_head sym·.Becomes = (refl, refl)
+symbol_head sym·.Unequal = (refl, refl)
+symbol_head sym·.AtMost = (refl, refl)
+symbol_head sym·.AtLeast = (refl, refl)
+symbol_head sym·.Semicolon = (refl, refl)
+symbol_head sym·.Comma = (refl, refl)
+symbol_head sym·.Dot = (refl, refl)
+symbol_head sym·.Open = (refl, refl)
+symbol_head sym·.Close = (refl, refl)
+symbol_head sym·.Colon = (refl, refl)
+symbol_head sym·.Equal = (refl, refl)
+symbol_head sym·.Less = (refl, refl)
+symbol_head sym·.Greater = (refl, refl)
+symbol_head sym·.Plus = (refl, refl)
+symbol_head sym·.Minus = (refl, refl)
+symbol_head sym·.Times = (refl, refl)
+symbol_head sym·.Divide = (refl, refl)
+symbol_head sym·.Ampersand = (refl, refl)
+
+head_long : (w : List ℕ) → Head w → 0 < length w
+head_long [] h = absurd h
+head_long (b ∷ bs) h = omega arith
+
+pub symbol_long : (s : Symbol) → 0 < length (symbol_text s)
+symbol_long s = head_long (symbol_text s) (symbol_head s)
 
 pub form_as : (b : ℕ) (bs : List ℕ) → Form (b ∷ bs) → FormAs (kind_of b) (b ∷ bs)
 form_as b bs (inl w) = rw (kind_letter b w.0) w
 form_as b bs (inr (inl w)) = rw (kind_decimal b w.0) w
 form_as b bs (inr (inr (inl w))) = rw (kind_percent b w.0) w
-form_as b bs (inr (inr (inr w))) = let o : kind_of b ≡ Other = subst HeadOther (sym w.1) (symbol_other w.0) in rw o w
+form_as b bs (inr (inr (inr w))) = rw (subst Head (sym w.1) (symbol_head w.0)).0 w
 
 pub no_form : Form [] → ⊥
 no_form (inl w) = w
@@ -76,12 +80,12 @@ no_form (inr (inr (inl w))) = w
 no_form (inr (inr (inr w))) = let l = symbol_long w.0 in let e : length (symbol_text w.0) ≡ 0 = ap length (sym w.1) in omega arith
 
 -- as many at the front as pass
-pub lead_all : (k : Class) (xs : List ℕ) → AllOf k (take (prefix_len (passes k) xs) xs)
+pub lead_all : (k : ℕ → Bool) (xs : List ℕ) → AllOf k (take (prefix_len k xs) xs)
 lead_all k [] = tt
 lead_all k (b ∷ bs) =
-    cond_both (passes k b) (1 + prefix_len (passes k) bs) 0 (λ (n : ℕ). AllOf k (take n (b ∷ bs))) (λ e. rw (one-add (prefix_len (passes k) bs)) (e, lead_all k bs)) (λ e. tt)
+    cond_both (k b) (1 + prefix_len k bs) 0 (λ (n : ℕ). AllOf k (take n (b ∷ bs))) (λ e. rw (one-add (prefix_len k bs)) (e, lead_all k bs)) (λ e. tt)
 
-pub lead_most : (k : Class) (v later : List ℕ) → AllOf k v → length v ≤ prefix_len (passes k) (v ++ later)
+pub lead_most : (k : ℕ → Bool) (v later : List ℕ) → AllOf k v → length v ≤ prefix_len k (v ++ later)
 lead_most k [] later h = omega arith
 lead_most k (b ∷ bs) later h = rw h.0 (omega (arith, lead_most k bs later h.1))
 
@@ -100,30 +104,6 @@ not_opens b (d ∷ bs) k h not =
     ⊎_elim (λ e. let is : kind_of b ≡ Other = ap kind_of (eqb-true b 60 e) in absurd (not (sym h ∙ is))) (λ e. and_left (eqb b 60) (eqb d 60) e) (cases_Bool (eqb b 60))
 
 -- no token begins with a blank
-abbrev HeadFirm : List ℕ → Type 0
-HeadFirm [] = ⊥
-HeadFirm (b ∷ bs) = blank b ≡ false
-
-symbol_firm : (s : Symbol) → HeadFirm (symbol_text s)
-symbol_firm sym·.Becomes = refl
-symbol_firm sym·.Unequal = refl
-symbol_firm sym·.AtMost = refl
-symbol_firm sym·.AtLeast = refl
-symbol_firm sym·.Semicolon = refl
-symbol_firm sym·.Comma = refl
-symbol_firm sym·.Dot = refl
-symbol_firm sym·.Open = refl
-symbol_firm sym·.Close = refl
-symbol_firm sym·.Colon = refl
-symbol_firm sym·.Equal = refl
-symbol_firm sym·.Less = refl
-symbol_firm sym·.Greater = refl
-symbol_firm sym·.Plus = refl
-symbol_firm sym·.Minus = refl
-symbol_firm sym·.Times = refl
-symbol_firm sym·.Divide = refl
-symbol_firm sym·.Ampersand = refl
-
 large_blank : (b : ℕ) → 32 < b → blank b ≡ false
 large_blank b h = or_from (eqb b 32) _ (ne_eqb b 32 (λ e. omega arith)) (or_from (eqb b 13) _ (ne_eqb b 13 (λ e. omega arith)) (ne_eqb b 10 (λ e. omega arith)))
 
@@ -131,4 +111,4 @@ pub kind_blank : (b : ℕ) (bs : List ℕ) → Form (b ∷ bs) → blank b ≡ f
 kind_blank b bs (inl w) = large_blank b (omega (arith, leb-true 65 b (and_parts (leb 65 b) (leb b 90) w.0).0))
 kind_blank b bs (inr (inl w)) = large_blank b (omega (arith, leb-true 48 b (and_parts (leb 48 b) (leb b 57) w.0).0))
 kind_blank b bs (inr (inr (inl w))) = large_blank b (omega (arith, w.0))
-kind_blank b bs (inr (inr (inr w))) = subst HeadFirm (sym w.1) (symbol_firm w.0)
+kind_blank b bs (inr (inr (inr w))) = (subst Head (sym w.1) (symbol_head w.0)).1

@@ -1,7 +1,6 @@
 pub mod Fronts
 pub mod Cutting
 pub mod Signs
-pub mod Wholes
 pub mod Lookups
 pub mod FirstBytes
 pub mod Sound

@@ -1,16 +1,16 @@
 -- The cut of a text is its reading. Assumes nothing.
 use Rattle.std.proofs.Common.{◌≡◌, ℕ, zero, suc, ◌+◌, ◌-◌, ◌<◌, ◌≤◌, eqb, List, [], ◌∷◌, ◌++◌, length, take, drop, Some, None, Ok, Err, Option, sym, refl, ap, ◌∙◌, subst, arith}
 use Rattle.std.proofs.lemmas.List.{append_assoc, length-append, length-drop, length-take-le, take-append-drop}
-use Rattle.std.proofs.lemmas.Bool.{cond_both, eqb-true, eqb-false, le-ltb}
+use Rattle.std.proofs.lemmas.Bool.{cond_both, eqb-true, eqb-false, lt-ltb, le-ltb}
 use Rattle.std.specs.List.{flat_map}
 use Rattle.words.specs.declared.refusal.Refusal.{Refusal}
+use Rattle.words.specs.Refusals.{refuse}
 use Rattle.text.specs.Lexemes.{gap_of}
 use Rattle.text.specs.Cut.{Piece, Front, onward, width_of, Cut, lexeme, cut, left, fault, settled, texted}
 use Rattle.text.specs.Theorems.{Part, token, spelling, tokens_in, Right, AllRight, Refused, Reading, TextStands}
-use Rattle.text.proofs.Cutting.{Wide, lexeme_wide}
+use Rattle.text.proofs.Cutting.{Wide, dropped, lexeme_wide}
 use Rattle.text.proofs.Sound.{Sound, lexeme_sound, Gap, gap_part}
 use Rattle.text.proofs.Unique.{reading_one}
-use Rattle.text.proofs.Wholes.{texted_long}
 
 abbrev Ended : Option Refusal → (place : ℕ) → (rest : List ℕ) → Type 0
 Ended None p rest = rest ≡ []
@@ -56,10 +56,6 @@ by_front p xs (Ok f) s w later ih =
     extend p xs (token f.0 (take f.1 xs)) f.1 (later f.1) _
     (take-append-drop f.1 xs) (length-take-le f.1 xs w.1) s (λ ps e. ap (λ (v : List Piece). f.0 ∷ v) e) refl (ih f.1 w.0 w.1)
 
-dropped : (b : ℕ) (bs : List ℕ) (n : ℕ) → 0 < n → drop (n - 1) bs ≡ drop n (b ∷ bs)
-dropped b bs zero h = absurd (omega arith)
-dropped b bs (suc k) h = let e : suc k - 1 ≡ k = omega arith in rw e
-
 read : (end p k : ℕ) (bs : List ℕ) → p + length (drop k bs) ≡ end → Read p (drop k bs) (cut end k bs)
 unfolding cut
 read end p zero [] e = halt p [] _ refl refl
@@ -90,6 +86,10 @@ ended source c r = by c.fault r.ending
     by (Some f) e =
         let z : 0 + length (flat_map spelling r.parts) ≡ length (flat_map spelling r.parts) = omega arith in
         record { parts = r.parts; rest = r.rest; whole = r.whole; right = r.right; ending = subst (λ (k : ℕ). Refused f k r.rest) z e }
+
+texted_long : (source : List ℕ) → 32768 < length source → texted source ≡ refuse 1 32768
+unfolding texted
+texted_long source h = rw (lt-ltb 32768 (length source) h)
 
 pub text_reads : (source : List ℕ) → length source ≤ 32768 → Reading source (texted source)
 unfolding texted left fault

@@ -1,5 +1,5 @@
 -- Symbols by cases of their bytes. Assumes nothing.
-use Rattle.std.proofs.Common.{◌≡◌, ℕ, ◌<◌, ◌≤◌, Bool, true, false, cond, eqb, List, [], ◌∷◌, ◌++◌, length, Some, None, Option, sym, refl, subst, arith}
+use Rattle.std.proofs.Common.{◌≡◌, ℕ, ◌≤◌, Bool, true, false, cond, eqb, List, [], ◌∷◌, ◌++◌, length, Some, None, Option, sym, refl, subst, arith}
 use Rattle.std.proofs.lemmas.Bool.{eqb-true, cond_both}
 use Rattle.text.specs.declared.token.Symbol.{Symbol}
 use Rattle.text.specs.declared.token.Symbol.TheVariants.{Becomes, Unequal, AtMost, AtLeast, Semicolon, Comma, Dot, Open, Close, Colon, Equal, Less, Greater, Plus, Minus, Times, Divide, Ampersand}
@@ -99,23 +99,3 @@ sign_longest Less (d ∷ rest) =
     (either (eqb d 61) 1 (Some (AtMost, 2)) (Some (Less, 1)) (omega arith) (omega arith))
 sign_longest Greater [] = omega arith
 sign_longest Greater (d ∷ rest) = either (eqb d 61) 1 (Some (AtLeast, 2)) (Some (Greater, 1)) (omega arith) (omega arith)
-
-pub symbol_long : (s : Symbol) → 0 < length (symbol_text s)
-symbol_long Becomes = omega arith
-symbol_long Unequal = omega arith
-symbol_long AtMost = omega arith
-symbol_long AtLeast = omega arith
-symbol_long Colon = omega arith
-symbol_long Less = omega arith
-symbol_long Greater = omega arith
-symbol_long Semicolon = omega arith
-symbol_long Comma = omega arith
-symbol_long Dot = omega arith
-symbol_long Open = omega arith
-symbol_long Close = omega arith
-symbol_long Equal = omega arith
-symbol_long Plus = omega arith
-symbol_long Minus = omega arith
-symbol_long Times = omega arith
-symbol_long Divide = omega arith
-symbol_long Ampersand = omega arith

@@ -1,17 +1,13 @@
 -- The token at the front is right at its place, or the refusal is. Assumes nothing.
-use Rattle.std.proofs.Common.{◌≡◌, ℕ, zero, suc, ◌+◌, ◌<◌, ◌≤◌, true, false, ◌&&◌, eqb, ltb, leb, ◌⊎◌, List, [], ◌∷◌, ◌++◌, length, take, drop, Some, None, Ok, Err, Option, sym, refl, ap, ◌∙◌, subst, inl, inr, ⊎_elim, one-add, arith}
-use Rattle.std.proofs.lemmas.List.{take-append-drop, length-take-le, length-append, append_assoc, take_at, drop_at, take_rest}
+use Rattle.std.proofs.Common.{Bool, ◌≡◌, ℕ, zero, suc, ◌+◌, ◌<◌, ◌≤◌, true, false, ◌&&◌, eqb, ltb, leb, ◌⊎◌, List, [], ◌∷◌, ◌++◌, length, take, drop, Some, None, Ok, Err, Option, sym, refl, ap, ◌∙◌, subst, inl, inr, ⊎_elim, one-add, arith}
+use Rattle.std.proofs.lemmas.List.{take-append-drop, length-take-le, length-append, append_assoc, take_at, drop_at}
 use Rattle.std.proofs.lemmas.List.Sums.{prefix_len-le-length}
 use Rattle.std.proofs.lemmas.Bool.{cases_Bool, and_parts, leb-true, leb-false, ltb-true, ltb-false, cond_both, eqb-true, eqb-false, or_left}
 use Rattle.std.specs.List.{prefix_len}
 use Rattle.words.specs.Refusals.{refuse}
 use Rattle.text.specs.declared.token.Kind.TheVariants.{Integer, Logical}
 use Rattle.text.specs.declared.token.Symbol.{Symbol}
-use Rattle.text.specs.declared.scan.Start.{Start}
-use Rattle.text.specs.declared.scan.Start.TheVariants.{Letter, Decimal, Percent, Comment, Other}
-use Rattle.text.specs.declared.scan.Class.{Class}
-use Rattle.text.specs.declared.scan.Class.TheVariants.{WordByte, Digit, OctalDigit}
-use Rattle.text.specs.Lexemes.{blank, capital, digit, passes, value_of, within, opens, blanks, start_of, symbol_text, sign_of, gap_of, closing}
+use Rattle.text.specs.Lexemes.{Start, Letter, Decimal, Percent, Comment, Other, blank, capital, digit, octal, word_byte, value_of, within, opens, blanks, start_of, symbol_text, sign_of, gap_of, closing}
 use Rattle.text.proofs.Fronts.{gap_blank, gap_none, gap_comment}
 use Rattle.std.specs.Option.{option_map}
 use Rattle.text.specs.Cut.{Piece, word, number, symbol, Front, good, word_of, number_of, valued, symbol_of, lexed, lexeme}
@@ -19,7 +15,7 @@ use Rattle.text.specs.Forms.{AllOf, WordForm, IntegerForm, LogicalForm, SymbolFo
 use Rattle.text.specs.Theorems.{Part, token, gap, comment, spelling, tokens_in, Right, Refused, BadToken, OpenComment}
 use Rattle.text.proofs.Cutting.{Starts, starts}
 use Rattle.text.proofs.Signs.{Stands, sign_stands, Reaches, sign_longest}
-use Rattle.text.proofs.FirstBytes.{kind_of, kind_letter, kind_decimal, kind_percent, kind_other, FormAs, HeadOther, symbol_other, by_form, not_opens, lead_all, lead_most}
+use Rattle.text.proofs.FirstBytes.{kind_of, kind_letter, kind_decimal, kind_percent, kind_other, FormAs, Head, symbol_head, by_form, not_opens, lead_all, lead_most}
 
 abbrev pub Sound : ℕ → List ℕ → Front → Type 0
 Sound p xs (Ok f) = Right p (token f.0 (take f.1 xs)) (drop f.1 xs)
@@ -33,7 +29,7 @@ longest_by b bs n k h l most v later e f =
     rw (length-take-le n (b ∷ bs) l) (most v later w (by_form b bs v later k h w f))
 
 -- a front of bytes of a class is no longer than all such bytes
-run_most : (k : Class) (xs v later : List ℕ) (n : ℕ) → n ≡ prefix_len (passes k) xs → xs ≡ v ++ later → AllOf k v → length v ≤ n
+run_most : (k : ℕ → Bool) (xs v later : List ℕ) (n : ℕ) → n ≡ prefix_len k xs → xs ≡ v ++ later → AllOf k v → length v ≤ n
 run_most k xs v later n ne e h = rw (ne, e) (lead_most k v later h)
 
 -- no comment begins at a token
@@ -51,37 +47,37 @@ pub spells_kind : (t : Piece) (b : ℕ) (bs : List ℕ) → Spells t (b ∷ bs) 
 spells_kind (word text p) b bs h = kind_letter b h.1.0
 spells_kind (number text Integer v p) b bs h = kind_decimal b h.1.0
 spells_kind (number text Logical v p) b bs h = kind_percent b h.1.0
-spells_kind (symbol s p) b bs h = subst HeadOther (sym h) (symbol_other s)
+spells_kind (symbol s p) b bs h = (subst Head (sym h) (symbol_head s)).0
 
 -- a word
 
-word_run : (v : List ℕ) → WordForm v → AllOf WordByte v
+word_run : (v : List ℕ) → WordForm v → AllOf word_byte v
 word_run [] h = absurd h
 word_run (b ∷ bs) h = (or_left (capital b) _ h.0, h.1)
 
-word_form : (b : ℕ) (bs : List ℕ) (n : ℕ) → capital b ≡ true → 0 < n → AllOf WordByte (take n (b ∷ bs)) → WordForm (take n (b ∷ bs))
+word_form : (b : ℕ) (bs : List ℕ) (n : ℕ) → capital b ≡ true → 0 < n → AllOf word_byte (take n (b ∷ bs)) → WordForm (take n (b ∷ bs))
 word_form b bs zero c h a = absurd (omega arith)
 word_form b bs (suc n) c h a = (c, a.1)
 
 no_word : (b : ℕ) (bs : List ℕ) → capital b ≡ true → 15 < length (b ∷ bs) → (t : Piece) → Spells t (b ∷ bs) → ⊥
 no_word b bs c h (word text p) s = let l : length (b ∷ bs) ≤ 15 = s.2 in omega arith
-no_word b bs c h (number text Integer v p) s = let k = kind_letter b c in let m = spells_kind (number text Integer v p) b bs s in let z : ◌≡◌ {A = ℕ} 0 1 = cc in omega arith
-no_word b bs c h (number text Logical v p) s = let k = kind_letter b c in let m = spells_kind (number text Logical v p) b bs s in let z : ◌≡◌ {A = ℕ} 0 1 = cc in omega arith
-no_word b bs c h (symbol t p) s = let k = kind_letter b c in let m = spells_kind (symbol t p) b bs s in let z : ◌≡◌ {A = ℕ} 0 1 = cc in omega arith
+no_word b bs c h (number text Integer v p) s = let k = kind_letter b c in let m = spells_kind (number text Integer v p) b bs s in cc
+no_word b bs c h (number text Logical v p) s = let k = kind_letter b c in let m = spells_kind (number text Logical v p) b bs s in cc
+no_word b bs c h (symbol t p) s = let k = kind_letter b c in let m = spells_kind (symbol t p) b bs s in cc
 
-sound_word : (p b : ℕ) (bs : List ℕ) (n : ℕ) → capital b ≡ true → n ≡ prefix_len (passes WordByte) (b ∷ bs) → Sound p (b ∷ bs) (word_of p n (b ∷ bs))
+sound_word : (p b : ℕ) (bs : List ℕ) (n : ℕ) → capital b ≡ true → n ≡ prefix_len word_byte (b ∷ bs) → Sound p (b ∷ bs) (word_of p n (b ∷ bs))
 sound_word p b bs n c ne =
     let xs = b ∷ bs in
-    let l : n ≤ length xs = omega (arith, prefix_len-le-length (passes WordByte) xs) in
+    let l : n ≤ length xs = omega (arith, prefix_len-le-length word_byte xs) in
     let o : 0 < n = rw (ne, c) (omega arith) in
-    let a : AllOf WordByte (take n xs) = rw ne (lead_all WordByte xs) in
+    let a : AllOf word_byte (take n xs) = rw ne (lead_all word_byte xs) in
     let f = word_form b bs n c o a in
     let m : Longest (take n xs) (drop n xs) =
     longest_by b bs n Letter (kind_letter b c) l
-    (λ v later e g. run_most WordByte xs v later n ne e (word_run v g)) in
+    (λ v later e g. run_most word_byte xs v later n ne e (word_run v g)) in
     let k = length-take-le n xs l in
     cond_both (leb n 15) (good (word (take n xs) p) n) (refuse 3 p) (Sound p xs)
-    (λ t. (refl, (refl, f, omega (arith, leb-true n 15 t)), m, closed b bs n (not_opens b bs Letter (kind_letter b c) (λ e. let z : ◌≡◌ {A = ℕ} 0 1 = cc in omega arith))))
+    (λ t. (refl, (refl, f, omega (arith, leb-true n 15 t)), m, closed b bs n (not_opens b bs Letter (kind_letter b c) (λ e. cc))))
     (λ t. (
       refl,
       inr (inl (
@@ -103,29 +99,29 @@ sound_word p b bs n c ne =
 
 -- a number
 
-integer_run : (v : List ℕ) → IntegerForm v → AllOf Digit v
+integer_run : (v : List ℕ) → IntegerForm v → AllOf digit v
 integer_run [] h = absurd h
 integer_run (b ∷ bs) h = (h.0, h.1)
 
-integer_form : (b : ℕ) (bs : List ℕ) (n : ℕ) → digit b ≡ true → 0 < n → AllOf Digit (take n (b ∷ bs)) → IntegerForm (take n (b ∷ bs))
+integer_form : (b : ℕ) (bs : List ℕ) (n : ℕ) → digit b ≡ true → 0 < n → AllOf digit (take n (b ∷ bs)) → IntegerForm (take n (b ∷ bs))
 integer_form b bs zero c h a = absurd (omega arith)
 integer_form b bs (suc n) c h a = (c, a.1)
 
 no_integer : (b : ℕ) (bs : List ℕ) → kind_of b ≡ Decimal → 32767 < value_of 10 0 (b ∷ bs) → (t : Piece) → Spells t (b ∷ bs) → ⊥
-no_integer b bs k h (word text p) s = let m = spells_kind (word text p) b bs s in let z : ◌≡◌ {A = ℕ} 0 1 = cc in omega arith
+no_integer b bs k h (word text p) s = let m = spells_kind (word text p) b bs s in cc
 no_integer b bs k h (number text Integer v p) s = let e : v ≡ value_of 10 0 (b ∷ bs) = s.2 in let l : v ≤ 32767 = s.3 in omega arith
-no_integer b bs k h (number text Logical v p) s = let m = spells_kind (number text Logical v p) b bs s in let z : ◌≡◌ {A = ℕ} 0 1 = cc in omega arith
-no_integer b bs k h (symbol t p) s = let m = spells_kind (symbol t p) b bs s in let z : ◌≡◌ {A = ℕ} 0 1 = cc in omega arith
+no_integer b bs k h (number text Logical v p) s = let m = spells_kind (number text Logical v p) b bs s in cc
+no_integer b bs k h (symbol t p) s = let m = spells_kind (symbol t p) b bs s in cc
 
-sound_integer : (p b : ℕ) (bs : List ℕ) (n : ℕ) → digit b ≡ true → n ≡ prefix_len (passes Digit) (b ∷ bs) → Sound p (b ∷ bs) (number_of p 0 n Integer (b ∷ bs))
+sound_integer : (p b : ℕ) (bs : List ℕ) (n : ℕ) → digit b ≡ true → n ≡ prefix_len digit (b ∷ bs) → Sound p (b ∷ bs) (number_of p 0 n Integer (b ∷ bs))
 sound_integer p b bs n c ne =
     let xs = b ∷ bs in
-    let l : n ≤ length xs = omega (arith, prefix_len-le-length (passes Digit) xs) in
+    let l : n ≤ length xs = omega (arith, prefix_len-le-length digit xs) in
     let o : 0 < n = rw (ne, c) (omega arith) in
-    let a : AllOf Digit (take n xs) = rw ne (lead_all Digit xs) in
+    let a : AllOf digit (take n xs) = rw ne (lead_all digit xs) in
     let f = integer_form b bs n c o a in
     let kd = kind_decimal b c in
-    let m : Longest (take n xs) (drop n xs) = longest_by b bs n Decimal kd l (λ v later e g. run_most Digit xs v later n ne e (integer_run v g)) in
+    let m : Longest (take n xs) (drop n xs) = longest_by b bs n Decimal kd l (λ v later e g. run_most digit xs v later n ne e (integer_run v g)) in
     let z : 0 + n ≡ n = omega arith in
     let v = value_of 10 0 (take n xs) in
     cond_both (eqb n 0) (refuse 3 p) (valued p (0 + n) Integer xs (within 32767 v)) (Sound p xs)
@@ -145,30 +141,30 @@ sound_integer p b bs n c ne =
         },
       )),
     ))
-    (λ u. (refl, (refl, f, refl, ltb-false 32767 v u), m, closed b bs n (not_opens b bs Decimal kd (λ e. let z : ◌≡◌ {A = ℕ} 0 1 = cc in omega arith))))))
+    (λ u. (refl, (refl, f, refl, ltb-false 32767 v u), m, closed b bs n (not_opens b bs Decimal kd (λ e. cc))))))
   where
     over : (n : ℕ) → 0 < n → 32767 < value_of 10 0 (take n (b ∷ bs)) → (t : Piece) → Spells t (take n (b ∷ bs)) → ⊥
     over zero o h = absurd (omega arith)
     over (suc n) o h = no_integer b (take n bs) (kind_decimal b c) h
 
 no_logical : (b : ℕ) (bs : List ℕ) → kind_of b ≡ Percent → (length bs ≡ 0) ⊎ (65535 < value_of 8 0 bs) → (t : Piece) → Spells t (b ∷ bs) → ⊥
-no_logical b bs k h (word text p) s = let m = spells_kind (word text p) b bs s in let z : ◌≡◌ {A = ℕ} 0 1 = cc in omega arith
-no_logical b bs k h (number text Integer v p) s = let m = spells_kind (number text Integer v p) b bs s in let z : ◌≡◌ {A = ℕ} 0 1 = cc in omega arith
+no_logical b bs k h (word text p) s = let m = spells_kind (word text p) b bs s in cc
+no_logical b bs k h (number text Integer v p) s = let m = spells_kind (number text Integer v p) b bs s in cc
 no_logical b bs k (inl h) (number text Logical v p) s = let l : 1 < length (b ∷ bs) = s.4 in omega arith
 no_logical b bs k (inr h) (number text Logical v p) s = let e : v ≡ value_of 8 0 bs = s.2 in let l : v ≤ 65535 = s.3 in omega arith
-no_logical b bs k h (symbol t p) s = let m = spells_kind (symbol t p) b bs s in let z : ◌≡◌ {A = ℕ} 0 1 = cc in omega arith
+no_logical b bs k h (symbol t p) s = let m = spells_kind (symbol t p) b bs s in cc
 
-logical_most : (b : ℕ) (bs : List ℕ) (n : ℕ) → n ≡ prefix_len (passes OctalDigit) bs → (v later : List ℕ) → b ∷ bs ≡ v ++ later → LogicalForm v → length v ≤ suc n
+logical_most : (b : ℕ) (bs : List ℕ) (n : ℕ) → n ≡ prefix_len octal bs → (v later : List ℕ) → b ∷ bs ≡ v ++ later → LogicalForm v → length v ≤ suc n
 logical_most b bs n ne [] later e h = omega arith
 logical_most b bs n ne (c ∷ cs) later e h =
     let t : bs ≡ cs ++ later = cc in
-    omega (arith, run_most OctalDigit bs cs later n ne t h.1)
+    omega (arith, run_most octal bs cs later n ne t h.1)
 
-sound_logical : (p b : ℕ) (bs : List ℕ) (n : ℕ) → b ≡ 37 → n ≡ prefix_len (passes OctalDigit) bs → Sound p (b ∷ bs) (number_of p 1 n Logical (b ∷ bs))
+sound_logical : (p b : ℕ) (bs : List ℕ) (n : ℕ) → b ≡ 37 → n ≡ prefix_len octal bs → Sound p (b ∷ bs) (number_of p 1 n Logical (b ∷ bs))
 sound_logical p b bs n c ne =
     let xs = b ∷ bs in
-    let l : n ≤ length bs = omega (arith, prefix_len-le-length (passes OctalDigit) bs) in
-    let a : AllOf OctalDigit (take n bs) = rw ne (lead_all OctalDigit bs) in
+    let l : n ≤ length bs = omega (arith, prefix_len-le-length octal bs) in
+    let a : AllOf octal (take n bs) = rw ne (lead_all octal bs) in
     let f : LogicalForm (take (suc n) xs) = (c, a) in
     let kd = kind_percent b c in
     let m : Longest (take (suc n) xs) (drop (suc n) xs) = longest_by b bs (suc n) Percent kd (omega arith) (logical_most b bs n ne) in
@@ -191,7 +187,7 @@ sound_logical p b bs n c ne =
       refl,
       (refl, f, refl, ltb-false 65535 v u, omega (arith, eqb-false n 0 t)),
       m,
-      closed b bs (suc n) (not_opens b bs Percent kd (λ e. let z : ◌≡◌ {A = ℕ} 0 1 = cc in omega arith)),
+      closed b bs (suc n) (not_opens b bs Percent kd (λ e. cc)),
     ))))
 
 -- a symbol
@@ -238,7 +234,7 @@ gap_zero xs h = ⊎_elim (λ e. let g = gap_blank xs e in absurd (omega arith)) 
   where
     by : (found : Option ℕ) → blanks xs ≡ false → opens xs ≡ true → closing (drop 2 xs) ≡ found → closing (drop 2 xs) ≡ None
     by None e o c = c
-    by (Some n) e o c = let g : gap_of xs ≡ n + 2 = gap_comment xs (Some n) e o (sym (ap closing (take_rest xs 2) ∙ c)) in absurd (omega arith)
+    by (Some n) e o c = let g : gap_of xs ≡ n + 2 = gap_comment xs (Some n) e o c in absurd (omega arith)
 
 -- the first `>>` is found, and no later one
 abbrev Before : ℕ → Option ℕ → Type 0
@@ -294,8 +290,8 @@ pub blank_gap : (b : ℕ) (bs : List ℕ) → blank b ≡ true → Gap (b ∷ bs
 blank_gap b bs h = record { part = gap b; front = refl; size = refl; right = λ p. h; silent = λ ps. refl }
 
 pub comment_gap : (xs : List ℕ) (m : ℕ) → opens xs ≡ true → closing (drop 2 xs) ≡ Some m → Gap xs (m + 2)
-comment_gap [] m o e = absurd (let z : ◌≡◌ {A = ℕ} 0 1 = cc in omega arith)
-comment_gap (b ∷ []) m o e = absurd (let z : ◌≡◌ {A = ℕ} 0 1 = cc in omega arith)
+comment_gap [] m o e = cc
+comment_gap (b ∷ []) m o e = cc
 comment_gap (b ∷ d ∷ xs) m o e =
     let c : ClosedAt xs m = subst (Closed xs) e (closing_stands xs) in
     let q = and_parts (eqb b 60) (eqb d 60) o in
@@ -323,9 +319,9 @@ gap_part b bs n h z =
     (cases_Bool (blanks (b ∷ bs)))
   where
     by : (found : Option ℕ) → blanks (b ∷ bs) ≡ false → opens (b ∷ bs) ≡ true → closing (drop 2 (b ∷ bs)) ≡ found → Gap (b ∷ bs) n
-    by None e o c = absurd (z (sym h ∙ gap_comment (b ∷ bs) None e o (sym (ap closing (take_rest (b ∷ bs) 2) ∙ c))))
+    by None e o c = absurd (z (sym h ∙ gap_comment (b ∷ bs) None e o c))
     by (Some m) e o c =
-        let f : m + 2 ≡ n = sym (gap_comment (b ∷ bs) (Some m) e o (sym (ap closing (take_rest (b ∷ bs) 2) ∙ c))) ∙ h in
+        let f : m + 2 ≡ n = sym (gap_comment (b ∷ bs) (Some m) e o c) ∙ h in
         subst (Gap (b ∷ bs)) f (comment_gap (b ∷ bs) m o c)
 
 -- a comment that has no end
@@ -345,8 +341,8 @@ lexeme_sound p b bs g = by (start_of xs) (starts b bs)
     xs = b ∷ bs
 
     by : (s : Start) → Starts b bs s → Sound p xs (lexed p xs s)
-    by Letter h = sound_word p b bs (prefix_len (passes WordByte) xs) h refl
-    by Decimal h = sound_integer p b bs (prefix_len (passes Digit) xs) h refl
-    by Percent h = sound_logical p b bs (prefix_len (passes OctalDigit) bs) h refl
+    by Letter h = sound_word p b bs (prefix_len word_byte xs) h refl
+    by Decimal h = sound_integer p b bs (prefix_len digit xs) h refl
+    by Percent h = sound_logical p b bs (prefix_len octal bs) h refl
     by Comment h = (refl, inr (inr (refl, open_comment xs g h)))
     by Other h = sound_symbol p b bs (kind_other b h.0 h.1 h.2) h.3 (gap_zero xs g).0

@@ -1,6 +1,6 @@
 -- A source has one reading. Assumes nothing.
-use Rattle.std.proofs.Common.{◌≡◌, ℕ, ◌+◌, true, false, eqb, ◌⊎◌, List, [], ◌∷◌, ◌++◌, length, Some, Ok, Err, Option, Result, sym, refl, ap, ◌∙◌, subst, inl, inr, arith}
-use Rattle.std.proofs.lemmas.List.{append_assoc}
+use Rattle.std.proofs.Common.{◌≡◌, ℕ, ◌+◌, true, false, eqb, ◌⊎◌, List, [], ◌∷◌, ◌++◌, length, take, drop, Some, Ok, Err, Option, Result, sym, refl, ap, ◌∙◌, subst, inl, inr, arith}
+use Rattle.std.proofs.lemmas.List.{append_assoc, take_at, drop_at}
 use Rattle.std.proofs.lemmas.Bool.{and_parts, both_ways, eqb-true}
 use Rattle.std.specs.Option.{option_map}
 use Rattle.std.specs.List.{flat_map}
@@ -8,8 +8,7 @@ use Rattle.words.specs.declared.refusal.Refusal.{Refusal}
 use Rattle.text.specs.declared.token.Kind.TheVariants.{Integer, Logical}
 use Rattle.text.specs.declared.token.Symbol.{Symbol}
 use Rattle.text.specs.declared.token.Symbol.TheVariants as sym·
-use Rattle.text.specs.declared.scan.Start.TheVariants.{Other}
-use Rattle.text.specs.Lexemes.{blank, opens, sign_of, symbol_text}
+use Rattle.text.specs.Lexemes.{Other, blank, opens, sign_of, symbol_text}
 use Rattle.text.specs.Cut.{Piece, word, number, symbol}
 use Rattle.text.specs.Forms.{Form, SymbolForm, Spells, place_of}
 use Rattle.text.specs.Theorems.{Part, token, gap, comment, spelling, tokens_in, Right, AllRight, NoToken, BadToken, OpenComment, Refused, Ending, Reading}
@@ -18,14 +17,10 @@ use Rattle.text.proofs.Sound.{spells_kind}
 
 -- two fronts of one text that are equally long
 same_front : (u v a b : List ℕ) → u ++ a ≡ v ++ b → length u ≡ length v → (u ≡ v) × (a ≡ b)
-same_front [] [] a b e l = (refl, e)
-same_front [] (y ∷ v) a b e l = absurd (omega arith)
-same_front (x ∷ u) [] a b e l = absurd (omega arith)
-same_front (x ∷ u) (y ∷ v) a b e l =
-    let h : x ≡ y = cc in
-    let t : u ++ a ≡ v ++ b = cc in
-    let r = same_front u v a b t (omega arith) in
-    (rw (h, r.0), r.1)
+same_front u v a b e l = (
+  sym (take_at u a (length u) refl) ∙ ap (take (length u)) e ∙ take_at v b (length u) (sym l),
+  sym (drop_at u a (length u) refl) ∙ ap (drop (length u)) e ∙ drop_at v b (length u) (sym l),
+)
 
 spells_form : (t : Piece) (w : List ℕ) → Spells t w → Form w
 spells_form (word text p) w h = inl h.1
@@ -62,20 +57,20 @@ symbol_one s t e = let h : Some s ≡ Some t = sym (sign_is s) ∙ ap signed e �
 -- bytes spell one token at a place
 spells_one : (t u : Piece) (b : ℕ) (bs : List ℕ) → Spells t (b ∷ bs) → Spells u (b ∷ bs) → place_of t ≡ place_of u → t ≡ u
 spells_one (word a p) (word a' p') b bs h g e = let c : a ≡ a' = h.0 ∙ sym g.0 in let q : p ≡ p' = e in rw (c, q)
-spells_one (word a p) (number a' Integer v' p') b bs h g e = let k = spells_kind (word a p) b bs h in let l = spells_kind (number a' Integer v' p') b bs g in let z : ◌≡◌ {A = ℕ} 0 1 = cc in absurd (omega arith)
-spells_one (word a p) (number a' Logical v' p') b bs h g e = let k = spells_kind (word a p) b bs h in let l = spells_kind (number a' Logical v' p') b bs g in let z : ◌≡◌ {A = ℕ} 0 1 = cc in absurd (omega arith)
-spells_one (word a p) (symbol s' p') b bs h g e = let k = spells_kind (word a p) b bs h in let l = spells_kind (symbol s' p') b bs g in let z : ◌≡◌ {A = ℕ} 0 1 = cc in absurd (omega arith)
-spells_one (number a Integer v p) (word a' p') b bs h g e = let k = spells_kind (number a Integer v p) b bs h in let l = spells_kind (word a' p') b bs g in let z : ◌≡◌ {A = ℕ} 0 1 = cc in absurd (omega arith)
+spells_one (word a p) (number a' Integer v' p') b bs h g e = let k = spells_kind (word a p) b bs h in let l = spells_kind (number a' Integer v' p') b bs g in cc
+spells_one (word a p) (number a' Logical v' p') b bs h g e = let k = spells_kind (word a p) b bs h in let l = spells_kind (number a' Logical v' p') b bs g in cc
+spells_one (word a p) (symbol s' p') b bs h g e = let k = spells_kind (word a p) b bs h in let l = spells_kind (symbol s' p') b bs g in cc
+spells_one (number a Integer v p) (word a' p') b bs h g e = let k = spells_kind (number a Integer v p) b bs h in let l = spells_kind (word a' p') b bs g in cc
 spells_one (number a Integer v p) (number a' Integer v' p') b bs h g e = let c : a ≡ a' = h.0 ∙ sym g.0 in let d : v ≡ v' = h.2 ∙ sym g.2 in let q : p ≡ p' = e in rw (c, d, q)
-spells_one (number a Integer v p) (number a' Logical v' p') b bs h g e = let k = spells_kind (number a Integer v p) b bs h in let l = spells_kind (number a' Logical v' p') b bs g in let z : ◌≡◌ {A = ℕ} 0 1 = cc in absurd (omega arith)
-spells_one (number a Integer v p) (symbol s' p') b bs h g e = let k = spells_kind (number a Integer v p) b bs h in let l = spells_kind (symbol s' p') b bs g in let z : ◌≡◌ {A = ℕ} 0 1 = cc in absurd (omega arith)
-spells_one (number a Logical v p) (word a' p') b bs h g e = let k = spells_kind (number a Logical v p) b bs h in let l = spells_kind (word a' p') b bs g in let z : ◌≡◌ {A = ℕ} 0 1 = cc in absurd (omega arith)
-spells_one (number a Logical v p) (number a' Integer v' p') b bs h g e = let k = spells_kind (number a Logical v p) b bs h in let l = spells_kind (number a' Integer v' p') b bs g in let z : ◌≡◌ {A = ℕ} 0 1 = cc in absurd (omega arith)
+spells_one (number a Integer v p) (number a' Logical v' p') b bs h g e = let k = spells_kind (number a Integer v p) b bs h in let l = spells_kind (number a' Logical v' p') b bs g in cc
+spells_one (number a Integer v p) (symbol s' p') b bs h g e = let k = spells_kind (number a Integer v p) b bs h in let l = spells_kind (symbol s' p') b bs g in cc
+spells_one (number a Logical v p) (word a' p') b bs h g e = let k = spells_kind (number a Logical v p) b bs h in let l = spells_kind (word a' p') b bs g in cc
+spells_one (number a Logical v p) (number a' Integer v' p') b bs h g e = let k = spells_kind (number a Logical v p) b bs h in let l = spells_kind (number a' Integer v' p') b bs g in cc
 spells_one (number a Logical v p) (number a' Logical v' p') b bs h g e = let c : a ≡ a' = h.0 ∙ sym g.0 in let d : v ≡ v' = h.2 ∙ sym g.2 in let q : p ≡ p' = e in rw (c, d, q)
-spells_one (number a Logical v p) (symbol s' p') b bs h g e = let k = spells_kind (number a Logical v p) b bs h in let l = spells_kind (symbol s' p') b bs g in let z : ◌≡◌ {A = ℕ} 0 1 = cc in absurd (omega arith)
-spells_one (symbol s p) (word a' p') b bs h g e = let k = spells_kind (symbol s p) b bs h in let l = spells_kind (word a' p') b bs g in let z : ◌≡◌ {A = ℕ} 0 1 = cc in absurd (omega arith)
-spells_one (symbol s p) (number a' Integer v' p') b bs h g e = let k = spells_kind (symbol s p) b bs h in let l = spells_kind (number a' Integer v' p') b bs g in let z : ◌≡◌ {A = ℕ} 0 1 = cc in absurd (omega arith)
-spells_one (symbol s p) (number a' Logical v' p') b bs h g e = let k = spells_kind (symbol s p) b bs h in let l = spells_kind (number a' Logical v' p') b bs g in let z : ◌≡◌ {A = ℕ} 0 1 = cc in absurd (omega arith)
+spells_one (number a Logical v p) (symbol s' p') b bs h g e = let k = spells_kind (number a Logical v p) b bs h in let l = spells_kind (symbol s' p') b bs g in cc
+spells_one (symbol s p) (word a' p') b bs h g e = let k = spells_kind (symbol s p) b bs h in let l = spells_kind (word a' p') b bs g in cc
+spells_one (symbol s p) (number a' Integer v' p') b bs h g e = let k = spells_kind (symbol s p) b bs h in let l = spells_kind (number a' Integer v' p') b bs g in cc
+spells_one (symbol s p) (number a' Logical v' p') b bs h g e = let k = spells_kind (symbol s p) b bs h in let l = spells_kind (number a' Logical v' p') b bs g in cc
 spells_one (symbol s p) (symbol s' p') b bs h g e = let c = symbol_one s s' (sym h ∙ g) in let q : p ≡ p' = e in rw (c, q)
 
 -- a token is no blank, and a comment is none
@@ -86,14 +81,14 @@ form_blank b bs (c ∷ cs) later e f h =
     both_ways (blank b) (subst (λ (x : ℕ). blank x ≡ false) same (kind_blank c cs f)) h
 
 opens_blank : (b : ℕ) (bs : List ℕ) → opens (b ∷ bs) ≡ true → blank b ≡ true → ⊥
-opens_blank b [] o h = let z : ◌≡◌ {A = ℕ} 0 1 = cc in omega arith
+opens_blank b [] o h = cc
 opens_blank b (d ∷ bs) o h =
     let e : b ≡ 60 = eqb-true b 60 (and_parts (eqb b 60) (eqb d 60) o).0 in
     both_ways (blank b) (ap blank e) h
 
 bad_opens : (xs : List ℕ) → BadToken xs → opens xs ≡ true → ⊥
-bad_opens [] t o = let z : ◌≡◌ {A = ℕ} 0 1 = cc in omega arith
-bad_opens (b ∷ []) t o = let z : ◌≡◌ {A = ℕ} 0 1 = cc in omega arith
+bad_opens [] t o = cc
+bad_opens (b ∷ []) t o = cc
 bad_opens (b ∷ d ∷ xs) t o =
     let e : b ≡ 60 = eqb-true b 60 (and_parts (eqb b 60) (eqb d 60) o).0 in
     let f : SymbolForm t.run = by_form b (d ∷ xs) t.run t.later Other (ap kind_of e) t.front t.form in
@@ -105,18 +100,18 @@ Halt xs = (xs ≡ []) ⊎ (NoToken xs ⊎ (BadToken xs ⊎ OpenComment xs))
 
 no_part : (p : ℕ) (x : Part) (rest : List ℕ) → Right p x rest → Halt (spelling x ++ rest) → ⊥
 no_part p (token t []) rest r h = no_form (spells_form t [] r.1)
-no_part p (token t (b ∷ bs)) rest r (inl e) = let z : ◌≡◌ {A = ℕ} 0 1 = cc in omega arith
+no_part p (token t (b ∷ bs)) rest r (inl e) = cc
 no_part p (token t (b ∷ bs)) rest r (inr (inl n)) = n.3 (b ∷ bs) rest refl (spells_form t (b ∷ bs) r.1)
 no_part p (token t (b ∷ bs)) rest r (inr (inr (inl n))) =
     let w = b ∷ bs in
     let l : length w ≡ length n.run = omega (arith, r.2 n.run n.later n.front n.form, n.longest w rest (sym n.front) (spells_form t w r.1)) in
     n.spells_none t (subst (Spells t) (same_front w n.run rest n.later n.front l).0 r.1)
 no_part p (token t (b ∷ bs)) rest r (inr (inr (inr n))) = both_ways (opens ((b ∷ bs) ++ rest)) r.3 n.0
-no_part p (gap b) rest r (inl e) = let z : ◌≡◌ {A = ℕ} 0 1 = cc in omega arith
+no_part p (gap b) rest r (inl e) = cc
 no_part p (gap b) rest r (inr (inl n)) = both_ways (blank b) n.1 r
 no_part p (gap b) rest r (inr (inr (inl n))) = form_blank b rest n.run n.later n.front n.form r
 no_part p (gap b) rest r (inr (inr (inr n))) = opens_blank b rest n.0 r
-no_part p (comment body) rest r (inl e) = let z : ◌≡◌ {A = ℕ} 0 1 = cc in omega arith
+no_part p (comment body) rest r (inl e) = cc
 no_part p (comment body) rest r (inr (inl n)) = both_ways true n.2 refl
 no_part p (comment body) rest r (inr (inr (inl n))) = bad_opens _ n refl
 no_part p (comment body) rest r (inr (inr (inr n))) = n.1 body rest (append_assoc body (62 ∷ 62 ∷ []) rest)
@@ -215,13 +210,13 @@ halts (Err e) ps r (q, inr (inr (x, n))) = inr (inr (inr n))
 
 -- the end of a text is no refusal
 end_none : (e : Refusal) (p : ℕ) (r : List ℕ) → Refused e p r → r ≡ [] → ⊥
-end_none e p (b ∷ r) h z = let k : ◌≡◌ {A = ℕ} 0 1 = cc in omega arith
+end_none e p (b ∷ r) h z = cc
 end_none e p [] (q, inl (x, n)) z = omega (arith, n.0)
 end_none e p [] (q, inr (inl (x, n))) z = by n.run n.front n.form
   where
     by : (w : List ℕ) → [] ≡ w ++ n.later → Form w → ⊥
     by [] e f = no_form f
-    by (c ∷ w) e f = let k : ◌≡◌ {A = ℕ} 0 1 = cc in omega arith
+    by (c ∷ w) e f = cc
 end_none e p [] (q, inr (inr (x, n))) z = both_ways false refl n.0
 
 answers : (a b : Result (List Piece) Refusal) (ps qs : List Part) (r s : List ℕ) → Ending a ps r → Ending b qs s →

@@ -10,12 +10,9 @@ use Rattle.text.specs.declared.token.Kind.TheVariants.{Integer, Logical}
 use Rattle.text.specs.declared.token.Symbol.{Symbol}
 use Rattle.text.specs.declared.token.Token.{Token}
 use Rattle.text.specs.declared.token.Token.TheVariants as token
-use Rattle.text.specs.declared.scan.Class.TheVariants.{WordByte}
-use Rattle.text.specs.declared.scan.Start.{Start}
-use Rattle.text.specs.declared.scan.Start.TheVariants.{Letter, Decimal, Percent, Comment, Other}
 use Rattle.text.specs.declared.fault.TextFault.{TextFault}
 use Rattle.text.specs.Faults.{refusal_of}
-use Rattle.text.specs.Lexemes.{passes, digit_of, base_of, most_of, value_of, within, start_of, gap_of, sign_of}
+use Rattle.text.specs.Lexemes.{Start, Letter, Decimal, Percent, Comment, Other, word_byte, digit_of, base_of, most_of, value_of, within, start_of, gap_of, sign_of}
 
 -- a token without its loan, with the place of its first byte
 pub data Piece : Type 0 where
@@ -65,9 +62,9 @@ symbol_of p (Some s) = good (symbol s.0 p) s.1
 
 -- the token at the front of a text that has no blank and no closed comment there; each runs as long as it can
 abbrev pub lexed : (place : ℕ) → List ℕ → Start → Front
-lexed p xs Letter = word_of p (prefix_len (passes WordByte) xs) xs
-lexed p xs Decimal = number_of p 0 (prefix_len (passes (digit_of Integer)) (drop 0 xs)) Integer xs
-lexed p xs Percent = number_of p 1 (prefix_len (passes (digit_of Logical)) (drop 1 xs)) Logical xs
+lexed p xs Letter = word_of p (prefix_len word_byte xs) xs
+lexed p xs Decimal = number_of p 0 (prefix_len (digit_of Integer) (drop 0 xs)) Integer xs
+lexed p xs Percent = number_of p 1 (prefix_len (digit_of Logical) (drop 1 xs)) Logical xs
 lexed p xs Comment = refuse 4 p
 lexed p xs Other = symbol_of p (sign_of xs)
 

@@ -1,31 +1,29 @@
 -- The lexical grammar: what has the form of a token, whatever its size, and what spells a token.
-use Rattle.std.specs.Prelude.{◌≡◌, ℕ, ◌<◌, ◌≤◌, true, ◌⊎◌, List, [], ◌∷◌, ◌++◌, length, drop}
+use Rattle.std.specs.Prelude.{Bool, ◌≡◌, ℕ, ◌<◌, ◌≤◌, true, ◌⊎◌, List, [], ◌∷◌, ◌++◌, length, drop}
 use Rattle.std.specs.List.{AllByRecursion}
 use Rattle.text.specs.declared.token.Kind.TheVariants.{Integer, Logical}
 use Rattle.text.specs.declared.token.Symbol.{Symbol}
-use Rattle.text.specs.declared.scan.Class.{Class}
-use Rattle.text.specs.declared.scan.Class.TheVariants.{WordByte, Digit, OctalDigit}
-use Rattle.text.specs.Lexemes.{capital, digit, passes, value_of, symbol_text}
+use Rattle.text.specs.Lexemes.{capital, digit, octal, word_byte, value_of, symbol_text}
 use Rattle.text.specs.Cut.{Piece, word, number, symbol}
 
 -- every byte is of the class
-abbrev pub AllOf : Class → List ℕ → Type 0
-AllOf k bs = AllByRecursion (λ b. passes k b ≡ true) bs
+abbrev pub AllOf : (ℕ → Bool) → List ℕ → Type 0
+AllOf k bs = AllByRecursion (λ b. k b ≡ true) bs
 
 -- a capital letter, then capitals, digits and apostrophes
 abbrev pub WordForm : List ℕ → Type 0
 WordForm [] = ⊥
-WordForm (b ∷ bs) = (capital b ≡ true) × AllOf WordByte bs
+WordForm (b ∷ bs) = (capital b ≡ true) × AllOf word_byte bs
 
 -- digits, one at least
 abbrev pub IntegerForm : List ℕ → Type 0
 IntegerForm [] = ⊥
-IntegerForm (b ∷ bs) = (digit b ≡ true) × AllOf Digit bs
+IntegerForm (b ∷ bs) = (digit b ≡ true) × AllOf digit bs
 
 -- `%`, then octal digits
 abbrev pub LogicalForm : List ℕ → Type 0
 LogicalForm [] = ⊥
-LogicalForm (b ∷ bs) = (b ≡ 37) × AllOf OctalDigit bs
+LogicalForm (b ∷ bs) = (b ≡ 37) × AllOf octal bs
 
 -- one of the 18 symbols, as it is written
 abbrev pub SymbolForm : List ℕ → Type 0

@@ -5,10 +5,6 @@ use Rattle.text.specs.declared.token.Kind.{Kind}
 use Rattle.text.specs.declared.token.Kind.TheVariants.{Integer, Logical}
 use Rattle.text.specs.declared.token.Symbol.{Symbol}
 use Rattle.text.specs.declared.token.Symbol.TheVariants.{Becomes, Unequal, AtMost, AtLeast, Semicolon, Comma, Dot, Open, Close, Colon, Equal, Less, Greater, Plus, Minus, Times, Divide, Ampersand}
-use Rattle.text.specs.declared.scan.Start.{Start}
-use Rattle.text.specs.declared.scan.Start.TheVariants.{Letter, Decimal, Percent, Comment, Other}
-use Rattle.text.specs.declared.scan.Class.{Class}
-use Rattle.text.specs.declared.scan.Class.TheVariants.{WordByte, Digit, OctalDigit}
 
 -- `A` to `Z`, `0` to `9`, `0` to `7`
 abbrev pub capital : ℕ → Bool
@@ -25,15 +21,13 @@ abbrev pub blank : ℕ → Bool
 blank b = b == 32 || (b == 13 || b == 10)
 
 -- capitals, digits and apostrophes may follow the first letter of a word
-abbrev pub passes : Class → ℕ → Bool
-passes WordByte b = capital b || (digit b || b == 39)
-passes Digit b = digit b
-passes OctalDigit b = octal b
+abbrev pub word_byte : ℕ → Bool
+word_byte b = capital b || (digit b || b == 39)
 
 -- the digits of a number, its base, and the largest value that its type has
-abbrev pub digit_of : Kind → Class
-digit_of Integer = Digit
-digit_of Logical = OctalDigit
+abbrev pub digit_of : Kind → ℕ → Bool
+digit_of Integer = digit
+digit_of Logical = octal
 
 abbrev pub base_of : Kind → ℕ
 base_of Integer = 10
@@ -77,6 +71,14 @@ commented (Some n) = n + 2
 -- how many bytes the blank or the comment at the front takes; 0 if neither is there
 unfoldable pub gap_of : List ℕ → ℕ
 gap_of xs = cond (blanks xs) 1 (cond (opens xs) (commented (closing (drop 2 xs))) 0)
+
+-- what a token begins with
+pub data Start : Type 0 where
+  Letter : Start
+  Decimal : Start
+  Percent : Start
+  Comment : Start
+  Other : Start
 
 -- what the first bytes of a token say
 abbrev pub start_of : List ℕ → Start

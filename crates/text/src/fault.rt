@@ -35,11 +35,3 @@ impl From<TextFault> for Refusal {
         }
     }
 }
-
-impl TextFault {
-    pub fn refusal(&self) -> Refusal
-        ensures { result ≡ refusal_of self.now }
-    {
-        Refusal::from(*self)
-    }
-}

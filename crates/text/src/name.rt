@@ -1,32 +1,30 @@
 // A name that an entry of a table holds itself.
-ghost use Rattle.std.specs.Prelude.{◌≡◌, ◌≤◌};
+ghost use Rattle.std.specs.Prelude.{◌≡◌};
+ghost use Rattle.std.specs.Option.{option_map};
+ghost use Rattle.text.specs.Names.{name_of, short_name};
 
 use crate::search::Named;
 
 // At most 15 bytes: the first `len` of `bytes`.
 // The bytes stand in the name, since an entry borrows nothing; an `ArrayVec` would not be Copy, as entries are.
 // No `PartialEq`: the type does not say that the bytes past `len` are alike.
+// No ghost field says that `len` is at most 15: the borrow checker then does not take the table of entries where an
+// entry is completed in its place (it was tried).
 #[derive(Clone, Copy)]
 pub struct Name {
     bytes: [u8; 15],
     len: u8,
-    ghost fits: { len ≤ 15 },
 }
 
 impl Named for Name {
-    ghost use Rattle.text.specs.Names.{name_of};
-
     ghost spelled = { λ s. name_of s };
 
     fn name(&self) -> &[u8] {
-        &self.bytes[..self.len as usize]
+        &self.bytes[..self.len.min(15) as usize]
     }
 }
 
 impl Name {
-    ghost use Rattle.std.specs.Option.{option_map};
-    ghost use Rattle.text.specs.Names.{name_of, short_name};
-
     pub const EMPTY: Name = Name {
         bytes: [0; 15],
         len: 0,

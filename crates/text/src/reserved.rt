@@ -144,6 +144,7 @@ static RESERVED: [Reserved; 30] = [
 ];
 
 // The table, which stands in one place.
+#[tactic(auto, unfolding(crate::specs::Reserved::reserved_words))]
 fn table() -> &'static [Reserved]
     ensures { map entry_of result.now ≡ reserved_words }
 {
@@ -151,6 +152,7 @@ fn table() -> &'static [Reserved]
 }
 
 // Which reserved word this is, if it is one.
+#[tactic(auto, using(crate::proofs::Lookups::keyword_some, crate::proofs::Lookups::keyword_none))]
 pub fn keyword(word: &[u8]) -> Option<Keyword>
     ensures { result ≡ keyword_of word.now }
 {

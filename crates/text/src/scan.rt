@@ -1,99 +1,49 @@
 // The next token of a text. Its words and numbers are parts of the text.
-ghost use Rattle.std.specs.Prelude.{◌≡◌, ℕ, ◌+◌, ◌-◌, ◌<◌, ◌≤◌, ◌&&◌, T, [], ◌∷◌, length, drop, IfSome, IfOk, MatchOption, ◌==◌, slice_index};
+ghost use Rattle.std.specs.Prelude.{◌≡◌, ◌<◌, ◌≤◌, [], ◌∷◌, length, drop, unwrap_or, IfSome, IfOk, MatchOption};
 ghost use Rattle.std.specs.List.{prefix_len};
-ghost use Rattle.text.specs.Lexemes.{passes, value_of, base_of, most_of, digit_of, gap_of, sign_of, blanks, opens, start_of};
+ghost use Rattle.text.specs.Lexemes.{word_byte, value_of, base_of, most_of, digit_of, gap_of, sign_of};
 ghost use Rattle.std.specs.Option.{option_map};
-ghost use Rattle.text.specs.declared.scan.Start.TheVariants.{Percent};
 ghost use Rattle.text.specs.Cut.{fronted, word_of, number_of, symbol_of, past, next_of, nexted, found, loosened, piece, left, Steps, Short};
 ghost use Rattle.text.specs.Cut.{lexeme as lexeme_of};
-ghost use Rattle.text.specs.declared.scan.Class.TheVariants.{WordByte};
 ghost use Rattle.text.specs.Lexemes.{within as within_of, closing as closing_of};
 
 use crate::fault::TextFault;
 use crate::token::{Kind, Symbol, Token};
 
-// Bytes that a token goes on with.
-#[derive(Clone, Copy)]
-pub enum Class {
-    WordByte,
-    Digit,
-    OctalDigit,
-}
-
-// What a token begins with.
-#[derive(Clone, Copy)]
-pub enum Start {
-    Letter,
-    Decimal,
-    Percent,
-    Comment,
-    Other,
-}
-
-fn is_of(b: u8, class: Class) -> bool
-    ensures { result ≡ passes class b }
+// A word goes on with capitals, digits and apostrophes.
+fn is_word_byte(b: u8) -> bool
+    ensures { result ≡ word_byte b }
 {
-    match class {
-        Class::WordByte => b >= b'A' && b <= b'Z' || b >= b'0' && b <= b'9' || b == b'\'',
-        Class::Digit => b >= b'0' && b <= b'9',
-        Class::OctalDigit => b >= b'0' && b <= b'7',
-    }
+    matches!(b, b'A'..=b'Z' | b'0'..=b'9' | b'\'')
 }
 
-// How many bytes at the front are of this class.
-fn run_len(s: &[u8], class: Class) -> usize
-    ensures value { result ≡ prefix_len (passes class) s.now }
+// How many bytes of a word stand at the front, and how many digits: a function for each, so that callers have an equation.
+fn word_len(s: &[u8]) -> usize
+    ensures value { result ≡ prefix_len word_byte s.now }
     ensures bound { result ≤ length s.now }
 {
-    let mut n = 0;
-    while n < s.len() && is_of(s[n], class) {
-        n += 1;
-    }
-    n
+    s.iter().take_while(|b| is_word_byte(**b)).count()
 }
 
-fn base(kind: Kind) -> u32
-    ensures value { result ≡ base_of kind }
-    ensures bound { (0 < result) × (result ≤ 10) }
+fn digits_len(s: &[u8], kind: Kind) -> usize
+    ensures value { result ≡ prefix_len (digit_of kind) s.now }
+    ensures bound { result ≤ length s.now }
 {
-    match kind {
-        Kind::Integer => 10,
-        Kind::Logical => 8,
-    }
+    s.iter().take_while(|b| kind.has_digit(**b)).count()
 }
 
-fn most(kind: Kind) -> u32
-    ensures value { result ≡ most_of kind }
-    ensures bound { result ≤ 65535 }
-{
-    match kind {
-        Kind::Integer => 32767,
-        Kind::Logical => 65535,
-    }
-}
-
-// The value of the digits, if the type has it. What is over the limit stays over it, so the loop may stop.
+// The value of the digits, if the type has it.
+#[tactic(auto, using(crate::proofs::Fronts::value_more, crate::proofs::Fronts::value_over, crate::proofs::Fronts::value_whole, crate::proofs::Fronts::within_some))]
 fn value(digits: &[u8], kind: Kind) -> Option<u16>
     ensures { result ≡ within_of (most_of kind) (value_of (base_of kind) 0 digits.now) }
 {
-    let base = base(kind);
-    let most = most(kind);
-    let mut n = 0u32;
+    let mut n = 0u16;
     for d in digits {
-        n = n * base + d.saturating_sub(b'0') as u32;
-        if n > most {
-            return None;
-        }
+        n = n
+            .checked_mul(kind.base())?
+            .checked_add(u16::from(d.saturating_sub(b'0')))?;
     }
-    Some(n as u16)
-}
-
-// A `>>` ends with the byte at `i`.
-fn ends_at(s: &[u8], i: usize) -> bool
-    requires { (1 ≤ i) × (i < length s.now) }
-    ensures { result ≡ (slice_index s.now (i - 1) == 62 && slice_index s.now i == 62) }
-{
-    s[i - 1] == b'>' && s[i] == b'>'
+    (n <= kind.most()).then_some(n)
 }
 
 // How many bytes there are up to the end of the next `>>`.
@@ -101,12 +51,9 @@ fn closing(s: &[u8]) -> Option<usize>
     ensures value { result ≡ closing_of s.now }
     ensures bound { IfSome result (λ n. n ≤ length s.now) }
 {
-    for i in 1..s.len() {
-        if ends_at(s, i) {
-            return Some(i + 1);
-        }
-    }
-    None
+    s.windows(2)
+        .position(|pair| matches!(pair, [b'>', b'>']))
+        .map(|i| i + 2)
 }
 
 // The symbol at the front, and how many bytes it takes: those of two bytes are tried first.
@@ -136,147 +83,106 @@ fn sign(s: &[u8]) -> Option<(Symbol, usize)>
     }
 }
 
-fn begins_blank(s: &[u8]) -> bool
-    ensures value { result ≡ blanks s.now }
-    ensures bound { T result → 1 ≤ length s.now }
+// How many bytes the blank or the comment at the front takes, if either is there.
+#[tactic(auto, unfolding(crate::specs::Lexemes::gap_of))]
+fn gap(s: &[u8]) -> Option<usize>
+    ensures value { unwrap_or result 0 ≡ gap_of s.now }
+    ensures bound { IfSome result (λ n. (0 < n) × (n ≤ length s.now)) }
 {
     match s {
-        [b' ' | b'\r' | b'\n', ..] => true,
-        _ => false,
-    }
-}
-
-fn begins_comment(s: &[u8]) -> bool
-    ensures value { result ≡ opens s.now }
-    ensures bound { T result → 2 ≤ length s.now }
-{
-    match s {
-        [b'<', b'<', ..] => true,
-        _ => false,
-    }
-}
-
-// How many bytes the blank or the comment at the front takes; 0 if neither is there.
-fn gap(s: &[u8]) -> usize
-    ensures value { result ≡ gap_of s.now }
-    ensures bound { result ≤ length s.now }
-{
-    if begins_blank(s) {
-        return 1;
-    }
-    if !begins_comment(s) {
-        return 0;
-    }
-    match closing(&s[2..]) {
-        Some(n) => n + 2,
-        None => 0,
+        [b' ' | b'\r' | b'\n', ..] => Some(1),
+        [b'<', b'<', body @ ..] => closing(body).map(|n| n + 2),
+        _ => None,
     }
 }
 
 // The text without the blanks and comments at its front.
-fn trimmed<'a>(text: &'a [u8]) -> &'a [u8]
+#[tactic(auto, using(crate::proofs::Cutting::past_here, crate::proofs::Cutting::past_more, std::proofs::lemmas::List::take_rest))]
+fn trimmed(text: &[u8]) -> &[u8]
     ensures { result.now ≡ past 0 text.now }
 {
     let mut rest = text;
-    loop {
-        let n = gap(rest);
-        if n == 0 {
-            return rest;
-        }
+    while let Some(n) = gap(rest) {
         rest = &rest[n..];
     }
+    rest
 }
 
-// The word at the front: a capital letter stands there.
-fn word<'a>(s: &'a [u8], place: usize) -> Result<(Token<'a>, usize), TextFault>
-    ensures { fronted result ≡ word_of place (prefix_len (passes WordByte) s.now) s.now }
-{
-    let n = run_len(s, Class::WordByte);
-    if n > 15 {
-        return Err(TextFault::BadToken(place));
-    }
-    Ok((Token::Word(&s[0..n], place), n))
-}
-
-fn digit(kind: Kind) -> Class
-    ensures { result ≡ digit_of kind }
-{
-    match kind {
-        Kind::Integer => Class::Digit,
-        Kind::Logical => Class::OctalDigit,
-    }
-}
-
-// The number at the front, whose digits come after `lead` bytes.
-fn number<'a>(
-    s: &'a [u8],
-    kind: Kind,
-    lead: usize,
+// What is left of a text, and its place: no blank and no closed comment stands at the front.
+#[derive(Clone, Copy)]
+struct Rest<'a> {
+    bytes: &'a [u8],
     place: usize,
-) -> Result<(Token<'a>, usize), TextFault>
-    requires { lead ≤ length s.now }
-    ensures { fronted result ≡ number_of place lead (prefix_len (passes (digit_of kind)) (drop lead s.now)) kind s.now }
-{
-    let digits = &s[lead..];
-    let n = run_len(digits, digit(kind));
-    if n == 0 {
-        return Err(TextFault::BadToken(place));
-    }
-    match value(&digits[0..n], kind) {
-        Some(v) => Ok((Token::Number(&s[0..lead + n], kind, v, place), lead + n)),
-        None => Err(TextFault::BadToken(place)),
-    }
 }
 
-// What begins where no blank stands.
-fn begins(s: &[u8]) -> Start
-    ensures value { result ≡ start_of s.now }
-    ensures bound { result ≡ Percent → 1 ≤ length s.now }
-{
-    match s {
-        [b'A'..=b'Z', ..] => Start::Letter,
-        [b'0'..=b'9', ..] => Start::Decimal,
-        [b'%', ..] => Start::Percent,
-        [b'<', b'<', ..] => Start::Comment,
-        _ => Start::Other,
+impl<'a> Rest<'a> {
+    // The word at the front: a capital letter stands there.
+    #[tactic(auto, using(std::proofs::lemmas::Bool::Decides::nat_tests))]
+    fn word(&self) -> Result<(Token<'a>, usize), TextFault>
+        ensures { fronted result ≡ word_of self.now.place (prefix_len word_byte self.now.bytes.now) self.now.bytes.now }
+    {
+        let n = word_len(self.bytes);
+        if n > 15 {
+            return Err(TextFault::BadToken(self.place));
+        }
+        Ok((Token::Word(&self.bytes[..n], self.place), n))
     }
-}
 
-fn symbol_at<'a>(s: &'a [u8], place: usize) -> Result<(Token<'a>, usize), TextFault>
-    ensures { fronted result ≡ symbol_of place (sign_of s.now) }
-{
-    match sign(s) {
-        Some((found, n)) => Ok((Token::Symbol(found, place), n)),
-        None => Err(TextFault::NoToken(place)),
+    // The number at the front, whose digits come after `lead` bytes.
+    #[tactic(auto, using(crate::proofs::Cutting::number_valued))]
+    fn number(&self, kind: Kind, lead: usize) -> Result<(Token<'a>, usize), TextFault>
+        requires { lead ≤ length self.now.bytes.now }
+        ensures { fronted result ≡ number_of self.now.place lead (prefix_len (digit_of kind) (drop lead self.now.bytes.now)) kind self.now.bytes.now }
+    {
+        let digits = &self.bytes[lead..];
+        let n = digits_len(digits, kind);
+        if n == 0 {
+            return Err(TextFault::BadToken(self.place));
+        }
+        let v = value(&digits[..n], kind).ok_or(TextFault::BadToken(self.place))?;
+        Ok((
+            Token::Number(&self.bytes[..lead + n], kind, v, self.place),
+            lead + n,
+        ))
     }
-}
 
-// The token at the front of a text that has no blank and no closed comment there.
-fn lexeme<'a>(s: &'a [u8], place: usize) -> Result<(Token<'a>, usize), TextFault>
-    ensures value { fronted result ≡ lexeme_of place s.now }
-    ensures bound { IfOk result (λ p. p.1 ≤ length s.now) }
-{
-    match begins(s) {
-        Start::Letter => word(s, place),
-        Start::Decimal => number(s, Kind::Integer, 0, place),
-        Start::Percent => number(s, Kind::Logical, 1, place),
-        Start::Comment => Err(TextFault::OpenComment(place)),
-        Start::Other => symbol_at(s, place),
+    fn symbol(&self) -> Result<(Token<'a>, usize), TextFault>
+        ensures { fronted result ≡ symbol_of self.now.place (sign_of self.now.bytes.now) }
+    {
+        let (found, n) = sign(self.bytes).ok_or(TextFault::NoToken(self.place))?;
+        Ok((Token::Symbol(found, self.place), n))
+    }
+
+    // The token at the front, and how many bytes it takes.
+    #[tactic(auto, unfolding(crate::specs::Cut::lexeme))]
+    fn token(&self) -> Result<(Token<'a>, usize), TextFault>
+        ensures value { fronted result ≡ lexeme_of self.now.place self.now.bytes.now }
+        ensures bound { IfOk result (λ p. p.1 ≤ length self.now.bytes.now) }
+    {
+        match self.bytes {
+            [b'A'..=b'Z', ..] => self.word(),
+            [b'0'..=b'9', ..] => self.number(Kind::Integer, 0),
+            [b'%', ..] => self.number(Kind::Logical, 1),
+            [b'<', b'<', ..] => Err(TextFault::OpenComment(self.place)),
+            _ => self.symbol(),
+        }
     }
 }
 
 // The next token of `text`, which stops at the place `end`, and the text after it; none at its end.
+// The two are no struct: a reader that calls holds them in its own, and would put them together at each call.
 pub fn next<'a>(text: &'a [u8], end: usize) -> Result<Option<(Token<'a>, &'a [u8])>, TextFault>
     ensures exact { nexted result ≡ next_of end text.now }
     ensures steps { Steps end text.now result }
     ensures short { IfOk result (λ o. IfSome o (λ x. Short (piece x.0))) }
 {
-    let rest = trimmed(text);
-    if rest.is_empty() {
+    let bytes = trimmed(text);
+    if bytes.is_empty() {
         return Ok(None);
     }
-    let (token, n) = lexeme(rest, end.saturating_sub(rest.len()))?;
-    Ok(Some((token, &rest[n..])))
+    let place = end.saturating_sub(bytes.len());
+    let (token, n) = Rest { bytes, place }.token()?;
+    Ok(Some((token, &bytes[n..])))
 }
 
 // The same for a text whose refusals were found before: none at its end, and none at a refusal.
@@ -285,8 +191,5 @@ pub fn peek<'a>(text: &'a [u8], end: usize) -> Option<(Token<'a>, &'a [u8])>
     ensures steps { MatchOption result (left end text.now ≡ []) (λ x. (left end text.now ≡ piece x.0 ∷ left end x.1.now) × (length x.1.now < length text.now)) }
     ensures short { IfSome result (λ x. Short (piece x.0)) }
 {
-    match next(text, end) {
-        Ok(found) => found,
-        Err(_) => None,
-    }
+    next(text, end).ok().flatten()
 }

@@ -1,11 +1,11 @@
 // What a source is made of.
 ghost use Rattle.std.specs.Prelude.{◌≡◌, Some};
-ghost use Rattle.text.specs.Lexemes.{kind_text, symbol_text};
+ghost use Rattle.text.specs.Lexemes.{base_of, digit_of, kind_text, most_of, symbol_text};
 
 use std::fmt;
 
 // A part of the source, with its place: the offset of its first byte.
-#[derive(Clone, Copy)]
+#[derive(Clone, Copy, PartialEq, Eq, Debug)]
 pub enum Token<'a> {
     // its bytes, its place
     Word(&'a [u8], usize),
@@ -29,6 +29,34 @@ impl Kind {
         match self {
             Kind::Integer => "INTEGER",
             Kind::Logical => "LOGICAL",
+        }
+    }
+
+    pub(crate) fn base(self) -> u16
+        ensures { result ≡ base_of self }
+    {
+        match self {
+            Kind::Integer => 10,
+            Kind::Logical => 8,
+        }
+    }
+
+    // The largest value.
+    pub(crate) fn most(self) -> u16
+        ensures { result ≡ most_of self }
+    {
+        match self {
+            Kind::Integer => 32767,
+            Kind::Logical => 65535,
+        }
+    }
+
+    pub(crate) fn has_digit(self, b: u8) -> bool
+        ensures { result ≡ digit_of self b }
+    {
+        match self {
+            Kind::Integer => b.is_ascii_digit(),
+            Kind::Logical => matches!(b, b'0'..=b'7'),
         }
     }
 }

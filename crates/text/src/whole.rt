@@ -11,6 +11,7 @@ use std::alloc::{AllocError, AllocFailed, Global};
 use thiserror::Error;
 
 // Looks at the whole source before any of its tokens is used: its refusals come first.
+#[tactic(auto, unfolding(crate::specs::Cut::texted))]
 pub fn check(source: &[u8]) -> Result<(), TextFault>
     ensures { Checked source.now result }
 {
@@ -77,8 +78,7 @@ pub fn tokens<'a>(heap: Global, source: &'a [u8]) -> Result<Vec<Token<'a>>, Toke
 
 // Tokens, blanks and comments put together again are the source; each token is the longest that begins at its place;
 // a refusal stands at the first byte where no token begins.
-pub fn text_stands() -> u8
+#[tactic(auto, using(crate::proofs::Readings::text_stands))]
+pub fn text_stands()
     ensures { TextStands }
-{
-    0
-}
+{}

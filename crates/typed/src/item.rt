@@ -1,7 +1,7 @@
 // One entry of the typed list: an instruction as it stands, or a marker for control.
 use words::instr::Instr;
 
-#[derive(Clone, Copy)]
+#[derive(Clone, Copy, PartialEq, Eq, Debug)]
 pub enum Item {
     // an instruction of straight code
     Plain(Instr),

@@ -2,8 +2,8 @@
 ghost use Rattle.std.specs.Prelude.{◌≡◌, MatchResult, Some, None, slice_get};
 ghost use Rattle.words.specs.Ops.{ops, number_of, named_by};
 
-use std::error::Error;
 use std::fmt;
+use thiserror::Error;
 
 // In the order of their numbers, from 0.
 #[derive(Clone, Copy, PartialEq, Eq, Debug)]
@@ -90,7 +90,8 @@ impl From<Op> for u16 {
 }
 
 // A number that no instruction has.
-#[derive(Clone, Copy, PartialEq, Eq, Debug)]
+#[derive(Clone, Copy, PartialEq, Eq, Debug, Error)]
+#[error("there is no instruction {0}")]
 pub struct UnknownOp(pub u16);
 
 impl TryFrom<u16> for Op {
@@ -130,7 +131,7 @@ impl Op {
 // How a listing names it.
 impl fmt::Display for Op {
     fn fmt<W: fmt::Write>(&self, f: &mut fmt::Formatter<W>) -> fmt::Result {
-        f.write_str(match self {
+        f.pad(match self {
             Op::Halt => "HALT",
             Op::Lit => "LIT",
             Op::Load => "LOAD",
@@ -168,11 +169,3 @@ impl fmt::Display for Op {
         })
     }
 }
-
-impl fmt::Display for UnknownOp {
-    fn fmt<W: fmt::Write>(&self, f: &mut fmt::Formatter<W>) -> fmt::Result {
-        write!(f, "there is no instruction {}", self.0)
-    }
-}
-
-impl Error for UnknownOp {}

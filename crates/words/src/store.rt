@@ -5,16 +5,15 @@ ghost use Rattle.words.specs.declared.store.StoreFault.TheVariants.{NoCell};
 ghost use Rattle.words.specs.Stores.{read_of, write_of, refusal_of};
 
 use crate::refusal::Refusal;
-use std::error::Error;
-use std::fmt;
+use thiserror::Error;
 
 pub mod bytes;
 pub mod joined;
 pub mod lent;
 
-#[derive(Clone, Copy, PartialEq, Eq, Debug)]
+#[derive(Clone, Copy, PartialEq, Eq, Debug, Error)]
 pub enum StoreFault {
-    // The store has no such cell.
+    #[error("the store has no such cell")]
     NoCell(u16),
 }
 
@@ -30,14 +29,6 @@ impl From<StoreFault> for Refusal {
         }
     }
 }
-
-impl fmt::Display for StoreFault {
-    fn fmt<W: fmt::Write>(&self, f: &mut fmt::Formatter<W>) -> fmt::Result {
-        write!(f, "the store has no such cell")
-    }
-}
-
-impl Error for StoreFault {}
 
 // Cells past the first 65,535 are not used.
 const MOST: usize = 65535;

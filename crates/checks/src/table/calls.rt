@@ -1,8 +1,9 @@
 // The table is made, filled and searched.
-ghost use Rattle.std.specs.Prelude.{◌≡◌, ◌<◌, map, length};
+ghost use Rattle.std.specs.Prelude.{◌≡◌, ◌<◌, map};
 ghost use Rattle.std.specs.Option.{option_map};
+ghost use Rattle.arrayvec.specs.ArrayVec.{array_vec_len};
 ghost use Rattle.text.specs.Names.{name_of};
-ghost use Rattle.checks.specs.Faults.{refusal_of};
+ghost use Rattle.checks.specs.Faults.{refusal_of, fault_in};
 ghost use Rattle.checks.specs.Tables.{empty, look, row_of, extended, declare as declare_in};
 ghost use Rattle.checks.specs.Names.{entering, used as used_in};
 ghost use Rattle.checks.specs.Sizes.{cells_at};
@@ -10,20 +11,19 @@ ghost use Rattle.checks.specs.Entered.{row_as, cells_of, sort_of};
 ghost use Rattle.checks.specs.Tabled.{table_as};
 
 use crate::entry::{NameEntry, Sort, complete};
-use crate::fault::CheckFault;
+use crate::fault::{CheckFault, answer, unless};
 use crate::table::NameTable;
-use crate::view::is_sort;
+use crate::view::{Declaration, Mention};
+use arrayvec::ArrayVec;
 use text::name::Name;
 use text::search::{Named, find};
-use text::token::Kind;
 
 impl NameTable {
     pub(crate) fn new() -> NameTable
         ensures { table_as result ≡ empty }
     {
         NameTable {
-            entries: [NameEntry::NOTHING; 64],
-            count: 0,
+            entries: ArrayVec::new(),
             cells: 0,
         }
     }
@@ -31,7 +31,7 @@ impl NameTable {
     pub(crate) fn clear(&mut self)
         ensures { table_as self.new ≡ empty }
     {
-        self.count = 0;
+        self.entries.clear();
         self.cells = 0;
     }
 
@@ -39,15 +39,7 @@ impl NameTable {
     pub fn entries(&self) -> &[NameEntry]
         ensures { map row_as result.now ≡ (table_as self.now).rows }
     {
-        &self.entries[0..self.count]
-    }
-
-    // How many names are declared.
-    fn len(&self) -> usize
-        ensures count { result ≡ self.now.count }
-        ensures rows { result ≡ length (table_as self.now).rows }
-    {
-        self.entries[0..self.count].len()
+        self.entries.as_slice()
     }
 
     // How many cells the names take.
@@ -61,10 +53,9 @@ impl NameTable {
     pub fn get(&self, name: &Name) -> Option<NameEntry>
         ensures { option_map row_as result ≡ look (table_as self.now).rows (name_of name.now) }
     {
-        match find(&self.entries[0..self.count], name.name()) {
-            Some(i) => Some(self.entries[i]),
-            None => None,
-        }
+        let entries = self.entries.as_slice();
+        let i = find(entries, name.name())?;
+        Some(entries[i])
     }
 }
 
@@ -73,74 +64,56 @@ impl NameTable {
     pub(crate) fn entry(&self, name: &Name) -> NameEntry
         ensures { row_as result ≡ row_of (table_as self.now) (name_of name.now) }
     {
-        match self.get(name) {
-            Some(e) => e,
-            None => NameEntry::NOTHING,
-        }
+        self.get(name).unwrap_or(NameEntry::NOTHING)
     }
 
     // A name more, which takes the next cells: the entry of an array is completed in its place.
-    fn enter(&mut self, name: Name, kind: Kind, high: Option<u16>)
-        requires { self.old.count < 64 }
-        ensures { table_as self.new ≡ extended (table_as self.old) (name_of name) kind (sort_of high) (cells_of high) }
+    fn enter(&mut self, d: Declaration)
+        requires { array_vec_len self.old.entries < 64 }
+        ensures { table_as self.new ≡ extended (table_as self.old) (name_of d.name) d.kind (sort_of d.high) (cells_of d.high) }
     {
-        let i = self.count;
-        self.entries[i] = NameEntry {
-            name,
-            kind,
+        let i = self.entries.len();
+        self.entries.push(NameEntry {
+            name: d.name,
+            kind: d.kind,
             sort: Sort::Simple,
             cell: self.cells,
             cells: 0,
-        };
-        let cells = complete(&mut self.entries[i], high);
-        self.count += 1;
-        self.cells += cells;
+        });
+        self.cells += complete(&mut self.entries[i], d.high);
     }
 
     // Declares a name: 8 if it is known, 9 if it is the 65th, else it is entered.
-    pub(crate) fn declare(
-        &mut self,
-        name: Name,
-        kind: Kind,
-        high: Option<u16>,
-        place: usize,
-    ) -> Option<CheckFault>
-        ensures fault { option_map refusal_of result ≡ entering (table_as self.old) (name_of name) place }
-        ensures table { table_as self.new ≡ declare_in (table_as self.old) (name_of name) kind (sort_of high) (cells_of high) }
+    pub(crate) fn declare(&mut self, d: Declaration) -> Result<(), CheckFault>
+        ensures fault { fault_in result ≡ entering (table_as self.old) (name_of d.name) d.place }
+        ensures table { table_as self.new ≡ declare_in (table_as self.old) (name_of d.name) d.kind (sort_of d.high) (cells_of d.high) }
     {
-        if let Some(_known) = self.get(&name) {
-            return Some(CheckFault::DeclaredTwice(place));
+        if self.get(&d.name).is_some() {
+            return Err(CheckFault::DeclaredTwice(d.place));
         }
-        if self.len() >= 64 {
-            return Some(CheckFault::TooManyNames(place));
+        if self.entries.is_full() {
+            return Err(CheckFault::TooManyNames(d.place));
         }
-        self.enter(name, kind, high);
-        None
+        self.enter(d);
+        Ok(())
     }
 
     // Uses a name: the search answers an Option, and here it becomes 7; 10 if a subscript is missing or unwanted.
-    pub(crate) fn judge(&self, name: Name, sort: Sort, place: usize) -> Option<CheckFault>
-        ensures { option_map refusal_of result ≡ used_in (table_as self.now) (name_of name) sort place }
+    pub(crate) fn judge(&self, m: Mention) -> Result<(), CheckFault>
+        ensures { fault_in result ≡ used_in (table_as self.now) (name_of m.name) m.sort m.place }
     {
-        match self.get(&name) {
-            None => Some(CheckFault::Undeclared(place)),
-            Some(e) => if is_sort(sort, e.sort) {
-                None
-            } else {
-                Some(CheckFault::Subscript(place))
-            },
-        }
+        let entry = self.get(&m.name).ok_or(CheckFault::Undeclared(m.place))?;
+        answer(unless(entry.sort == m.sort, CheckFault::Subscript(m.place)))
     }
 
-    // Whether the cells of a name go past 4,096.
-    pub(crate) fn cells_fault(&self, name: Name, place: usize) -> Option<CheckFault>
-        ensures { option_map refusal_of result ≡ cells_at (table_as self.now) (name_of name) place }
+    // Whether the cells of a declared name go past 4,096.
+    pub(crate) fn cells_fault(&self, d: Declaration) -> Option<CheckFault>
+        ensures { option_map refusal_of result ≡ cells_at (table_as self.now) (name_of d.name) d.place }
     {
-        let e = self.entry(&name);
-        if e.cell as u64 + e.cells as u64 <= 4096 {
-            None
-        } else {
-            Some(CheckFault::TooManyCells(place))
-        }
+        let e = self.entry(&d.name);
+        unless(
+            e.cell as u64 + e.cells as u64 <= 4096,
+            CheckFault::TooManyCells(d.place),
+        )
     }
 }

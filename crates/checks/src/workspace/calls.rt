@@ -1,39 +1,39 @@
 // A workspace is made, used and looked into.
-ghost use Rattle.std.specs.Prelude.{◌≡◌, ◌≤◌, [], map, length, IfOk, vec_capacity};
-ghost use Rattle.std.specs.Option.{option_map};
+ghost use Rattle.std.specs.Prelude.{◌≡◌, ◌≤◌, [], map, length, IfOk};
 ghost use Rattle.syntax.specs.Entries.{entries as entries_of};
-ghost use Rattle.checks.specs.Faults.{refusal_of};
+ghost use Rattle.checks.specs.Faults.{fault_in};
 ghost use Rattle.checks.specs.Tables.{empty};
 ghost use Rattle.checks.specs.Names.{table_from};
 ghost use Rattle.checks.specs.Entered.{row_as};
 ghost use Rattle.checks.specs.Tabled.{table_as};
 ghost use Rattle.checks.specs.Works.{verdict, holds, nodes_of, nothing};
 
+use crate::arms::Arms;
 use crate::entry::NameEntry;
 use crate::fault::CheckFault;
 use crate::names::names;
 use crate::sizes::sizes;
 use crate::table::NameTable;
 use crate::types::types;
-use crate::workspace::Workspace;
+use crate::workspace::{ENTRIES, Workspace};
 use std::alloc::{AllocError, Global};
 use syntax::node::Node;
 use text::token::Kind;
 use typed::item::Item;
+use words::reserved::Reserved;
 
 // The three stages, each over the whole list before the next.
-fn judge(nodes: &[Node], table: &mut NameTable, kinds: &mut Vec<Kind>) -> Option<CheckFault>
-    requires { length nodes.now ≤ vec_capacity kinds.old }
-    ensures fault { option_map refusal_of result ≡ verdict (entries_of nodes.now) }
+fn judge(
+    nodes: &[Node],
+    table: &mut NameTable,
+    kinds: &mut Reserved<Kind, ENTRIES>,
+) -> Result<(), CheckFault>
+    requires { length nodes.now ≤ 65536 }
+    ensures fault { fault_in result ≡ verdict (entries_of nodes.now) }
     ensures table { table_as table.new ≡ table_from empty (entries_of nodes.now) }
-    ensures cap { vec_capacity kinds.new ≡ vec_capacity kinds.old }
 {
-    if let Some(f) = names(nodes, table) {
-        return Some(f);
-    }
-    if let Some(f) = types(nodes, table, kinds) {
-        return Some(f);
-    }
+    names(nodes, table)?;
+    types(nodes, table, kinds)?;
     sizes(nodes, table)
 }
 
@@ -42,18 +42,12 @@ impl Workspace {
     pub fn new(heap: Global) -> Result<Workspace, AllocError>
         ensures { IfOk result (λ w. (holds w ≡ nothing) × (nodes_of w ≡ [])) }
     {
-        let syntax = syntax::workspace::Workspace::new(heap)?;
-        let kinds = Vec::with_capacity(heap, 65536)?;
-        let opened = Vec::with_capacity(heap, 65536)?;
-        let arms = Vec::with_capacity(heap, 65536)?;
-        let items = Vec::with_capacity(heap, 131072)?;
         Ok(Workspace {
-            syntax,
+            syntax: syntax::workspace::Workspace::new(heap)?,
             table: NameTable::new(),
-            kinds,
-            opened,
-            arms,
-            items,
+            kinds: Reserved::new(heap)?,
+            arms: Arms::new(heap)?,
+            items: Reserved::new(heap)?,
         })
     }
 

@@ -1,65 +1,46 @@
 // The readers of expressions, primaries and subscripts, which contain one another.
 ghost use Rattle.std.specs.Prelude.{[], ◌∷◌};
 ghost use Rattle.text.specs.Names.{name_of};
-ghost use Rattle.syntax.specs.Machine.{wants, right, more, fields, relation as a_relation, lead as a_lead, compare as a_compare, primary as a_primary, named as a_named, paren as a_paren};
-ghost use Rattle.syntax.specs.Readers.{Ready, Done, FirstDone, AgainDone};
+ghost use Rattle.syntax.specs.Machine.{wants, right, fields, relation as a_relation, lead as a_lead, compare as a_compare, primary as a_primary, named as a_named, paren as a_paren};
+ghost use Rattle.syntax.specs.Readers.{Ready, Done, FirstDone};
 
-use crate::class::{is_keyword, is_symbol, kind_at, literal, operator_at, spelled};
 use crate::fault::GrammarFault;
-use crate::lexeme::Strength;
+use crate::lexeme::{PlacedName, Strength};
 use crate::node::Node;
-use crate::reader::{Reader, put};
-use text::name::Name;
+use crate::reader::Reader;
+use crate::reader::tokens::put;
 use text::token::{Keyword, Symbol};
 
 impl Reader<'_, '_> {
     // Operands of what is stronger than `s`, joined by operators of `s` from the left.
     #[cycle(expressions)]
     pub(crate) fn chain(&mut self, s: Strength, levels: u8) -> Result<(), GrammarFault>
-        requires { Ready 0 self.old }
         ensures { Done 0 1 (wants s levels) self.old self.new result }
     {
         self.first(s, levels)?;
-        while self.joined(s, levels)? {}
+        while let Some(o) = self.ahead.operator(s) {
+            let place = self.ahead.place;
+            self.advance();
+            self.operand(s, levels)?;
+            put(self.out, Node::Binary(o, place));
+        }
         Ok(())
-    }
-
-    // An operator of strength `s` and the operand right of it, if there is one.
-    #[cycle(expressions)]
-    fn joined(&mut self, s: Strength, levels: u8) -> Result<bool, GrammarFault>
-        requires { Ready 0 self.old }
-        ensures { AgainDone (more s levels) self.old self.new result }
-    {
-        let Some(o) = operator_at(s, self.ahead.sort) else {
-            return Ok(false);
-        };
-        let place = self.ahead.place;
-        self.advance();
-        self.operand(s, levels)?;
-        put(self.out, Node::Binary(o, place));
-        Ok(true)
     }
 
     // The leftmost operand of operators of strength `s`.
     #[cycle(expressions)]
     fn first(&mut self, s: Strength, levels: u8) -> Result<(), GrammarFault>
-        requires { Ready 0 self.old }
         ensures { FirstDone s levels self.old self.new result }
     {
         match s {
-            Strength::Lor => self.chain(Strength::Xor, levels),
-            Strength::Xor => self.chain(Strength::Land, levels),
-            Strength::Land => self.relation(levels),
-            Strength::Relation => self.chain(Strength::Sum, levels),
             Strength::Sum => self.lead(levels),
-            Strength::Term => self.factor(levels),
+            _ => self.operand(s, levels),
         }
     }
 
     // The operand right of an operator of strength `s`.
     #[cycle(expressions)]
     fn operand(&mut self, s: Strength, levels: u8) -> Result<(), GrammarFault>
-        requires { Ready 0 self.old }
         ensures { Done 0 1 (right s levels) self.old self.new result }
     {
         match s {
@@ -75,16 +56,13 @@ impl Reader<'_, '_> {
     // LNOT and what it applies to, or a sum and perhaps another that it is compared with.
     #[cycle(expressions)]
     fn relation(&mut self, levels: u8) -> Result<(), GrammarFault>
-        requires { Ready 0 self.old }
         ensures { Done 0 1 (a_relation levels ∷ []) self.old self.new result }
     {
-        if is_keyword(self.ahead.sort, Keyword::Lnot) {
+        if self.ahead.is_keyword(Keyword::Lnot) {
             let place = self.ahead.place;
-            if levels == 0 {
-                return Err(GrammarFault::TooDeep(place));
-            }
+            let within = self.ahead.opens(levels)?;
             self.advance();
-            self.relation(levels - 1)?;
+            self.relation(within)?;
             put(self.out, Node::Lnot(place));
             return Ok(());
         }
@@ -95,10 +73,9 @@ impl Reader<'_, '_> {
     // Perhaps a relation's operator, and the sum right of it.
     #[cycle(expressions)]
     fn compare(&mut self, levels: u8) -> Result<(), GrammarFault>
-        requires { Ready 0 self.old }
         ensures { Done 0 0 (a_compare levels ∷ []) self.old self.new result }
     {
-        if let Some(o) = operator_at(Strength::Relation, self.ahead.sort) {
+        if let Some(o) = self.ahead.operator(Strength::Relation) {
             let place = self.ahead.place;
             self.advance();
             self.chain(Strength::Sum, levels)?;
@@ -110,10 +87,9 @@ impl Reader<'_, '_> {
     // The first term of a sum, perhaps with `-` before the whole of it.
     #[cycle(expressions)]
     fn lead(&mut self, levels: u8) -> Result<(), GrammarFault>
-        requires { Ready 0 self.old }
         ensures { Done 0 1 (a_lead levels ∷ []) self.old self.new result }
     {
-        if is_symbol(self.ahead.sort, Symbol::Minus) {
+        if self.ahead.is_symbol(Symbol::Minus) {
             let place = self.ahead.place;
             self.advance();
             self.chain(Strength::Term, levels)?;
@@ -126,7 +102,6 @@ impl Reader<'_, '_> {
     // primary {field or & shift}
     #[cycle(expressions)]
     fn factor(&mut self, levels: u8) -> Result<(), GrammarFault>
-        requires { Ready 0 self.old }
         ensures { Done 0 1 (a_primary levels ∷ fields ∷ []) self.old self.new result }
     {
         self.primary(levels)?;
@@ -135,58 +110,53 @@ impl Reader<'_, '_> {
 
     #[cycle(expressions)]
     fn primary(&mut self, levels: u8) -> Result<(), GrammarFault>
-        requires { Ready 0 self.old }
         ensures { Done 0 1 (a_primary levels ∷ []) self.old self.new result }
     {
-        if let Some((v, kind)) = literal(self.ahead.sort) {
+        if let Some((v, kind)) = self.ahead.literal() {
             self.advance();
             put(self.out, Node::Number(v, kind));
             return Ok(());
         }
-        if let Some(kind) = kind_at(self.ahead.sort) {
+        if let Some(kind) = self.ahead.kind() {
             self.advance();
             self.paren(levels)?;
             put(self.out, Node::Convert(kind));
             return Ok(());
         }
-        if let Some(n) = spelled(self.ahead.sort) {
-            let place = self.ahead.place;
+        if let Some(n) = self.ahead.name() {
             self.advance();
-            return self.named(n, place, levels);
+            return self.named(n, levels);
         }
         self.paren(levels)
     }
 
     // What may follow a name: its subscript.
     #[cycle(expressions)]
-    fn named(&mut self, n: Name, place: usize, levels: u8) -> Result<(), GrammarFault>
+    fn named(&mut self, n: PlacedName, levels: u8) -> Result<(), GrammarFault>
         requires { Ready 2 self.old }
-        ensures { Done 2 1 (a_named (name_of n) place levels ∷ []) self.old self.new result }
+        ensures { Done 2 1 (a_named (name_of n.name) n.place levels ∷ []) self.old self.new result }
     {
-        if is_symbol(self.ahead.sort, Symbol::Open) {
+        if self.ahead.is_symbol(Symbol::Open) {
             let paren = self.ahead.place;
             self.paren(levels)?;
-            put(self.out, Node::Index(n, place, paren));
+            put(self.out, Node::Index(n.name, n.place, paren));
             return Ok(());
         }
-        put(self.out, Node::Load(n, place));
+        put(self.out, Node::Load(n.name, n.place));
         Ok(())
     }
 
     // An expression in parentheses, which are a level.
     #[cycle(expressions)]
     pub(crate) fn paren(&mut self, levels: u8) -> Result<(), GrammarFault>
-        requires { Ready 0 self.old }
         ensures { Done 0 2 (a_paren levels ∷ []) self.old self.new result }
     {
-        if !is_symbol(self.ahead.sort, Symbol::Open) {
-            return Err(GrammarFault::Unexpected(self.ahead.place));
+        if !self.ahead.is_symbol(Symbol::Open) {
+            return Err(self.ahead.unexpected());
         }
-        if levels == 0 {
-            return Err(GrammarFault::TooDeep(self.ahead.place));
-        }
+        let within = self.ahead.opens(levels)?;
         self.advance();
-        self.chain(Strength::Lor, levels - 1)?;
+        self.chain(Strength::Lor, within)?;
         self.symbol(Symbol::Close)
     }
 }

@@ -5,19 +5,18 @@ ghost use Rattle.syntax.specs.declared.lexeme.Opening.TheVariants.{Block, Condit
 ghost use Rattle.syntax.specs.Machine.{stmt, block as a_block, otherwise as an_else, arms as some_arms, variable, stepped as a_step, inner as within, turns as the_turns};
 ghost use Rattle.syntax.specs.Readers.{Ready, Done, StatementDone};
 
-use crate::class::{is_keyword, is_symbol, opening_of, spelled};
 use crate::fault::GrammarFault;
-use crate::lexeme::{Opening, Strength};
+use crate::lexeme::{Opening, PlacedName, Strength};
 use crate::node::Node;
-use crate::reader::{Reader, put};
-use text::name::Name;
+use crate::reader::Reader;
+use crate::reader::tokens::put;
 use text::token::{Keyword, Symbol};
 
 impl Reader<'_, '_> {
-    // A statement, perhaps an empty one.
+    // A statement, perhaps an empty one. Its promise names each goal that may come below: with that of `begun` alone the
+    // searches for its callers' proofs were tried and stop at their limits.
     #[cycle(statements)]
     fn statement(&mut self, levels: u8) -> Result<(), GrammarFault>
-        requires { Ready 0 self.old }
         ensures { StatementDone levels self.old self.new result }
     {
         self.begun(levels)
@@ -25,23 +24,21 @@ impl Reader<'_, '_> {
 
     // A statement by its first token.
     #[cycle(statements)]
+    #[tactic(auto, unfolding(crate::specs::Machine::stated))]
     fn begun(&mut self, levels: u8) -> Result<(), GrammarFault>
-        requires { Ready 0 self.old }
         ensures { Done 0 0 (stmt levels ∷ []) self.old self.new result }
     {
         let place = self.ahead.place;
-        if let Some(n) = spelled(self.ahead.sort) {
+        if let Some(n) = self.ahead.name() {
             self.advance();
-            return self.target(n, place, levels);
+            return self.target(n, levels);
         }
-        let Some(opening) = opening_of(self.ahead.sort) else {
+        let Some(opening) = self.ahead.opening() else {
             return Ok(());
         };
-        if levels == 0 {
-            return Err(GrammarFault::TooDeep(place));
-        }
+        let within = self.ahead.opens(levels)?;
         self.advance();
-        self.inner(opening, place, levels - 1)
+        self.inner(opening, place, within)
     }
 
     // What follows the reserved word at `place`, which has opened a level.
@@ -63,11 +60,10 @@ impl Reader<'_, '_> {
     // statement {; statement} END
     #[cycle(statements)]
     pub(crate) fn block(&mut self, levels: u8) -> Result<(), GrammarFault>
-        requires { Ready 0 self.old }
         ensures { Done 0 0 (stmt levels ∷ a_block levels ∷ []) self.old self.new result }
     {
         self.statement(levels)?;
-        while is_symbol(self.ahead.sort, Symbol::Semicolon) {
+        while self.ahead.is_symbol(Symbol::Semicolon) {
             self.advance();
             self.statement(levels)?;
         }
@@ -94,7 +90,7 @@ impl Reader<'_, '_> {
         requires { Ready 1 self.old }
         ensures { Done 1 0 (an_else levels ∷ []) self.old self.new result }
     {
-        if is_keyword(self.ahead.sort, Keyword::Else) {
+        if self.ahead.is_keyword(Keyword::Else) {
             self.advance();
             put(self.out, Node::Else);
             self.statement(levels)?;
@@ -122,11 +118,10 @@ impl Reader<'_, '_> {
     // The statements of a CASE, up to its END.
     #[cycle(statements)]
     fn arms(&mut self, levels: u8) -> Result<(), GrammarFault>
-        requires { Ready 0 self.old }
         ensures { Done 0 0 (stmt levels ∷ some_arms levels ∷ []) self.old self.new result }
     {
         self.statement(levels)?;
-        while is_symbol(self.ahead.sort, Symbol::Semicolon) {
+        while self.ahead.is_symbol(Symbol::Semicolon) {
             self.advance();
             put(self.out, Node::Out);
             put(self.out, Node::Arm);
@@ -174,42 +169,42 @@ impl Reader<'_, '_> {
         requires { Ready 2 self.old }
         ensures { Done 2 0 (variable place levels ∷ []) self.old self.new result }
     {
-        let (n, at) = self.name()?;
+        let n = self.name()?;
         self.symbol(Symbol::Becomes)?;
         self.chain(Strength::Lor, levels)?;
-        put(self.out, Node::First(n, at, place));
-        self.stepped(n, at, place, levels)
+        put(self.out, Node::First(n.name, n.place, place));
+        self.stepped(n, place, levels)
     }
 
     // STEP and its value, or 1; then UNTIL.
     #[cycle(statements)]
-    fn stepped(&mut self, n: Name, at: usize, place: usize, levels: u8) -> Result<(), GrammarFault>
-        requires { Ready 0 self.old }
-        ensures { Done 0 0 (a_step (name_of n) at place levels ∷ []) self.old self.new result }
+    #[tactic(auto, unfolding(crate::specs::Machine::stepping))]
+    fn stepped(&mut self, n: PlacedName, place: usize, levels: u8) -> Result<(), GrammarFault>
+        ensures { Done 0 0 (a_step (name_of n.name) n.place place levels ∷ []) self.old self.new result }
     {
-        if is_keyword(self.ahead.sort, Keyword::Step) {
+        if self.ahead.is_keyword(Keyword::Step) {
             self.advance();
             self.chain(Strength::Lor, levels)?;
             put(self.out, Node::Step(place));
             self.keyword(Keyword::Until)?;
-            return self.turns(n, at, place, levels);
+            return self.turns(n, place, levels);
         }
         self.keyword(Keyword::Until)?;
         put(self.out, Node::One);
-        self.turns(n, at, place, levels)
+        self.turns(n, place, levels)
     }
 
     // The limit of a FOR, DO and its statement.
     #[cycle(statements)]
-    fn turns(&mut self, n: Name, at: usize, place: usize, levels: u8) -> Result<(), GrammarFault>
-        requires { Ready 0 self.old }
-        ensures { Done 0 0 (the_turns (name_of n) at place levels ∷ []) self.old self.new result }
+    #[tactic(auto, unfolding(crate::specs::Machine::limited))]
+    fn turns(&mut self, n: PlacedName, place: usize, levels: u8) -> Result<(), GrammarFault>
+        ensures { Done 0 0 (the_turns (name_of n.name) n.place place levels ∷ []) self.old self.new result }
     {
         self.chain(Strength::Lor, levels)?;
-        put(self.out, Node::For(n, at, place));
+        put(self.out, Node::For(n.name, n.place, place));
         self.keyword(Keyword::Do)?;
         self.statement(levels)?;
-        put(self.out, Node::Next(n));
+        put(self.out, Node::Next(n.name));
         put(self.out, Node::Drop);
         Ok(())
     }

@@ -1,12 +1,9 @@
-use Rattle.std.proofs.Common.{refl}
+use Rattle.std.proofs.Common.{◌∙◌}
 use Rattle.std.specs.Option.{option_map}
 use Rattle.checks.specs.Faults.{refusal_of}
 use Rattle.checks.specs.Tabled.{table_as}
 use Rattle.checks.proofs.Passes.{names_more, names_all}
 use Rattle.checks.proofs.names.names.Goals as goal
-
-pub loop-n-init : goal.loop-n-init
-loop-n-init c = rw c.clear.ensures (refl, refl)
 
 pub loop-n-preserved : goal.loop-n-preserved
 loop-n-preserved c =
@@ -16,4 +13,4 @@ loop-n-preserved c =
 pub returns : goal.returns
 returns c =
     let p = names_all c.args.nodes.now c.loop-n.n-index (option_map refusal_of c.loop-n.best) (table_as c.loop-n.table) _ _ c.loop-n.invariant c.loop-n-test.false in
-    record { fault = p.0; table = p.1 }
+    record { fault = c.answer.ensures ∙ p.0; table = p.1 }

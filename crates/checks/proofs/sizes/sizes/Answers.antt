@@ -1,12 +1,9 @@
-use Rattle.std.proofs.Common.{refl}
+use Rattle.std.proofs.Common.{◌∙◌}
 use Rattle.std.specs.Option.{option_map}
 use Rattle.checks.specs.Faults.{refusal_of}
 use Rattle.checks.specs.Tabled.{table_as}
 use Rattle.checks.proofs.Passes.{sizes_more, sizes_all}
 use Rattle.checks.proofs.sizes.sizes.Goals as goal
-
-pub loop-n-init : goal.loop-n-init
-loop-n-init c = refl
 
 pub loop-n-preserved : goal.loop-n-preserved
 loop-n-preserved c =
@@ -14,4 +11,6 @@ loop-n-preserved c =
     c.loop-n-test.true c.cells_fault.ensures c.soonest-first.ensures c.range_fault.ensures c.soonest-best.ensures
 
 pub returns : goal.returns
-returns c = sizes_all c.args.nodes.now c.loop-n.n-index (option_map refusal_of c.loop-n.best) (table_as c.args.table.now) _ c.loop-n.invariant c.loop-n-test.false
+returns c =
+    c.answer.ensures
+    ∙ sizes_all c.args.nodes.now c.loop-n.n-index (option_map refusal_of c.loop-n.best) (table_as c.args.table.now) _ c.loop-n.invariant c.loop-n-test.false

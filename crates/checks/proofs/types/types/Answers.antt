@@ -1,25 +1,18 @@
-use Rattle.std.proofs.Common.{refl, ◌∙◌, arith, rules}
+use Rattle.std.proofs.Common.{reverse, ◌∙◌, arith}
 use Rattle.std.specs.Option.{option_map}
 use Rattle.checks.specs.Faults.{refusal_of}
-use Rattle.checks.specs.Stacks.{tops}
 use Rattle.checks.specs.Tabled.{table_as}
 use Rattle.checks.proofs.Passes.{types_more, types_all}
 use Rattle.checks.proofs.types.types.Goals as goal
 
-pub loop-n-init : goal.loop-n-init
-loop-n-init c = (rw c.clear.ensures.tops, omega (arith, c.clear.ensures.len), refl)
-
 pub loop-n-preserved : goal.loop-n-preserved
 loop-n-preserved c = (
-  types_more c.args.nodes.now c.loop-n.n-index (option_map refusal_of c.loop-n.best) (table_as c.args.table.now) (tops c.loop-n.stack) _ c.loop-n.invariant.0 _ _ _ _ _
+  types_more c.args.nodes.now c.loop-n.n-index (option_map refusal_of c.loop-n.best) (table_as c.args.table.now) (reverse c.loop-n.stack) _ c.loop-n.invariant.0 _ _ _ _ _
       c.loop-n-test.true c.rule_of-rule.ensures c.clash.ensures c.soonest-best.ensures c.follow.ensures.tops,
   omega (arith, c.follow.ensures.len, c.loop-n.invariant.1),
-  c.follow.ensures.cap ∙ c.loop-n.invariant.2,
 )
 
 pub returns : goal.returns
 returns c =
-    record {
-      fault = types_all c.args.nodes.now c.loop-n.n-index (option_map refusal_of c.loop-n.best) (table_as c.args.table.now) (tops c.loop-n.stack) _ c.loop-n.invariant.0 c.loop-n-test.false;
-      cap = search rules;
-    }
+    c.answer.ensures
+    ∙ types_all c.args.nodes.now c.loop-n.n-index (option_map refusal_of c.loop-n.best) (table_as c.args.table.now) (reverse c.loop-n.stack) _ c.loop-n.invariant.0 c.loop-n-test.false

@@ -1,14 +1,12 @@
-use Rattle.std.proofs.Common.{◌≡◌, ◌≤◌, [], drop, vec_len, vec_capacity}
+use Rattle.std.proofs.Common.{◌≡◌, ◌≤◌, [], length, reverse, drop}
 use Rattle.std.specs.Option.{option_map}
 use Rattle.syntax.specs.Entries.{entries}
 use Rattle.checks.specs.Faults.{refusal_of, least_from, least}
-use Rattle.checks.specs.Stacks.{tops}
 use Rattle.checks.specs.Tabled.{table_as}
 use Rattle.checks.specs.Types.{type_faults}
 use Rattle.checks.proofs.types.types.Given as goal
 
 abbrev pub invariant-loop-n : goal.invariant-loop-n
 invariant-loop-n l =
-    (least_from (option_map refusal_of l.best) (type_faults (table_as l.table) (entries (drop l.n-index l.nodes)) (tops l.stack)) ≡ least (type_faults (table_as l.table) (entries l.nodes) []))
-    × (vec_len l.stack ≤ l.n-index)
-    × (vec_capacity l.stack ≡ vec_capacity l.initial.stack)
+    (least_from (option_map refusal_of l.best) (type_faults (table_as l.table) (entries (drop l.n-index l.nodes)) (reverse l.stack)) ≡ least (type_faults (table_as l.table) (entries l.nodes) []))
+    × (length l.stack ≤ l.n-index)

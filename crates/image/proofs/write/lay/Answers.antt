@@ -1,23 +1,23 @@
 use Rattle.std.proofs.Common.{length, sym, ap, ◌∙◌, arith}
-use Rattle.image.specs.Codes.{coded, image}
+use Rattle.image.specs.Codes.{code_of, image}
 use Rattle.image.proofs.Appends.{appended_then, from_nothing}
 use Rattle.image.proofs.Bodies.{image_length}
 use Rattle.image.proofs.write.lay.Goals as goal
 
 pub put-requires : goal.put-requires
-put-requires c = omega (arith, c.requires.1, image_length (coded c.args.cells c.args.depth c.args.code.now), c.new-list.ensures.len, ap length c.new-list.ensures.room)
+put-requires c = omega (arith, c.requires.1, image_length (code_of c.args.code), c.new-list.ensures.len, ap length c.new-list.ensures.room)
 
 pub put-requires-2 : goal.put-requires-2
 put-requires-2 c =
-    omega (arith, c.requires.1, image_length (coded c.args.cells c.args.depth c.args.code.now), c.new-list.ensures.len, ap length c.new-list.ensures.room, c.put.ensures.len, c.put.ensures.size)
+    omega (arith, c.requires.1, image_length (code_of c.args.code), c.new-list.ensures.len, ap length c.new-list.ensures.room, c.put.ensures.len, c.put.ensures.size)
 
 pub put-requires-3 : goal.put-requires-3
 put-requires-3 c =
-    omega (arith, c.requires.1, image_length (coded c.args.cells c.args.depth c.args.code.now), c.new-list.ensures.len, ap length c.new-list.ensures.room, c.put.ensures.len, c.put.ensures.size, c.put-2.ensures.len, c.put-2.ensures.size)
+    omega (arith, c.requires.1, image_length (code_of c.args.code), c.new-list.ensures.len, ap length c.new-list.ensures.room, c.put.ensures.len, c.put.ensures.size, c.put-2.ensures.len, c.put-2.ensures.size)
 
 pub put_body-requires : goal.put_body-requires
 put_body-requires c =
-    omega (arith, c.requires.1, image_length (coded c.args.cells c.args.depth c.args.code.now), c.new-list.ensures.len, ap length c.new-list.ensures.room, c.put.ensures.len, c.put.ensures.size, c.put-2.ensures.len, c.put-2.ensures.size, c.put-3.ensures.len, c.put-3.ensures.size)
+    omega (arith, c.requires.1, image_length (code_of c.args.code), c.new-list.ensures.len, ap length c.new-list.ensures.room, c.put.ensures.len, c.put.ensures.size, c.put-2.ensures.len, c.put-2.ensures.size, c.put-3.ensures.len, c.put-3.ensures.size)
 
 pub returns : goal.returns
 unfolding image

@@ -10,15 +10,15 @@ use Rattle.image.proofs.write.put_body.Goals as goal
 pub put_entry-requires : goal.put_entry-requires
 put_entry-requires c =
     let code = c.args.code.now in
-    let i = c.loop-i.i in
-    let m = ap length (body_more code i none c.loop-i-test.true) in
-    omega (arith, c.requires, c.loop-i.invariant.len, c.loop-i.invariant.size, m, length-append (body_bytes (take i code)) (entry_bytes (get_or code i none)), body_front code (i + 1))
+    let i = c.loop-entry.entry-index in
+    let m = ap length (body_more code i none c.loop-entry-test.true) in
+    omega (arith, c.requires, c.loop-entry.invariant.len, c.loop-entry.invariant.size, m, length-append (body_bytes (take i code)) (entry_bytes (get_or code i none)), body_front code (i + 1))
 
-pub loop-i-preserved : goal.loop-i-preserved
-loop-i-preserved c =
-    subst (λ (xs : List ℕ). Appended c.args.out.now xs c.put_entry.new.out) (sym (body_more c.args.code.now c.loop-i.i none c.loop-i-test.true))
-    (appended_then _ _ _ _ _ c.loop-i.invariant c.put_entry.ensures)
+pub loop-entry-preserved : goal.loop-entry-preserved
+loop-entry-preserved c =
+    subst (λ (xs : List ℕ). Appended c.args.out.now xs c.put_entry.new.out) (sym (body_more c.args.code.now c.loop-entry.entry-index none c.loop-entry-test.true))
+    (appended_then _ _ _ _ _ c.loop-entry.invariant c.put_entry.ensures)
 
 pub returns : goal.returns
 returns c =
-    subst (λ (is : List Instr). Appended c.args.out.now (body_bytes is) c.loop-i.out) (take_all c.loop-i.i c.args.code.now c.loop-i-test.false) c.loop-i.invariant
+    subst (λ (is : List Instr). Appended c.args.out.now (body_bytes is) c.loop-entry.out) (take_all c.loop-entry.entry-index c.args.code.now c.loop-entry-test.false) c.loop-entry.invariant

@@ -3,5 +3,5 @@ use Rattle.image.specs.Codes.{body_bytes}
 use Rattle.image.specs.Writing.{Appended}
 use Rattle.image.proofs.write.put_body.Given as goal
 
-abbrev pub invariant-loop-i : goal.invariant-loop-i
-invariant-loop-i l = Appended l.initial.out (body_bytes (take l.i l.code)) l.out
+abbrev pub invariant-loop-entry : goal.invariant-loop-entry
+invariant-loop-entry l = Appended l.initial.out (body_bytes (take l.entry-index l.code)) l.out

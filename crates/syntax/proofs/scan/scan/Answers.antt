@@ -1,12 +1,10 @@
 use Rattle.std.proofs.Common.{sym, ap, ◌∙◌, arith}
 use Rattle.text.specs.Cut.{piece}
-use Rattle.syntax.specs.Marks.{Tok, mark_of}
+use Rattle.syntax.specs.declared.lexeme.Lexeme.{Lexeme}
+use Rattle.syntax.specs.Marks.{Tok, mark_of, tok_of, live}
 use Rattle.syntax.specs.Machine.{feed, behind}
-use Rattle.syntax.proofs.Cuts.{short_next, behind_token, behind_end, live_least}
+use Rattle.syntax.proofs.Cuts.{behind_token, behind_end, live_least}
 use Rattle.syntax.proofs.scan.scan.Goals as goal
-
-pub lexeme-requires : goal.lexeme-requires
-lexeme-requires c = short_next c.args.end c.args.text.now (piece c.in-Some.t, c.in-Some.after.now) c.in-Some.ensures.exact
 
 pub returns-in-Some : goal.returns-in-Some
 returns-in-Some c =
@@ -19,4 +17,10 @@ returns-in-Some c =
     }
 
 pub returns-in-None : goal.returns-in-None
-returns-in-None c = record { onward = λ k o. behind_end c.args.end c.args.text.now c.in-None.ensures.steps k o; less = omega arith }
+returns-in-None c =
+    let e = ap tok_of c.new.ensures in
+    let m = ap mark_of (ap (λ (x : Lexeme). x.sort) c.new.ensures) in
+    record {
+      onward = λ k o. behind_end c.args.end c.args.text.now c.in-None.ensures.steps k o ∙ ap (λ (x : Tok). feed x (behind c.args.end c.args.text.now) k o) (sym e);
+      less = omega (arith, ap live m);
+    }

@@ -1,11 +1,9 @@
-use Rattle.std.proofs.Common.{◌+◌, ◌<◌, length, ap, arith}
-use Rattle.checks.proofs.Entering.{entered_rows, table_of}
+use Rattle.std.proofs.Common.{◌+◌, ap}
+use Rattle.checks.proofs.Entering.{entered, table_of}
 use Rattle.checks.proofs.table.NameTable.enter.Goals as goal
 
 pub returns : goal.returns
 returns c =
-    let n = c.args.self.now.count in
-    let xs = c.args.self.now.entries in
-    let l : n < length xs = omega arith in
-    table_of _ _ _ _ (entered_rows xs n _ c.complete-cells.new.entry _ c.args.high l c.complete-cells.ensures.row)
-    (ap (λ k. c.args.self.now.cells + k) c.complete-cells.ensures.cells)
+    table_of _ _ _ _
+    (entered c.args.self.now.entries.items c.push.new.self.items c.deref_mut.result.now c.len-i.result _ c.complete.new.entry _ c.args.d.high c.len-i.ensures.value c.push.ensures.items c.deref_mut.ensures.value c.complete.ensures.row)
+    (ap (λ k. c.args.self.now.cells + k) c.complete.ensures.cells)

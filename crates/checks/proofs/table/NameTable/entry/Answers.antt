@@ -1,11 +1,9 @@
-use Rattle.std.proofs.Common.{ap}
-use Rattle.checks.specs.Tables.{row_of, found}
+use Rattle.std.proofs.Common.{refl, ap, ◌∙◌}
+use Rattle.checks.specs.Tables.{row_of}
+use Rattle.checks.specs.Entered.{row_as}
+use Rattle.checks.proofs.Entering.{row_found}
 use Rattle.checks.proofs.table.NameTable.entry.Goals as goal
 
-pub returns-in-Some : goal.returns-in-Some
+pub returns : goal.returns
 unfolding row_of
-returns-in-Some c = ap found c.in-Some.ensures
-
-pub returns-in-None : goal.returns-in-None
-unfolding row_of
-returns-in-None c = ap found c.in-None.ensures
+returns c = ap row_as c.unwrap_or.ensures ∙ row_found c.get.result _ _ refl c.get.ensures

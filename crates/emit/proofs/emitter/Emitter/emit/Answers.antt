@@ -1,41 +1,42 @@
-use Rattle.std.proofs.Common.{◌≡◌, ◌<◌, [], ◌++◌, length, vec_items, vec_len, sym, ap, ◌∙◌, subst, arith, rules}
-use Rattle.emit.specs.Tops.{tops}
-use Rattle.emit.specs.Items.{places, ends, emitted}
+use Rattle.std.proofs.Common.{◌≡◌, ℕ, ◌<◌, [], length, Some, None, Ok, Option, sym, ap, ◌∙◌, subst, arith}
+use Rattle.std.specs.Option.{ok_or}
+use Rattle.emit.specs.Items.{Back, ends}
+use Rattle.emit.specs.Measure.{Measures}
 use Rattle.emit.specs.Passes.{Low}
-use Rattle.emit.proofs.Loops.{low_places, back_code}
-use Rattle.emit.proofs.Sizes.{emitted_long, made_long}
+use Rattle.emit.proofs.Loops.{low_places, places_long, back_code}
+use Rattle.emit.proofs.Sizes.{emitted_long}
 use Rattle.emit.proofs.emitter.Emitter.emit.Goals as goal
 
-pub resolve-requires : goal.resolve-requires
-resolve-requires c =
-    let ns = c.args.items.now in
-    let m = c.in-Some.ensures in
-    let p : vec_items c.place_all.new.out ≡ places ns 0 [] = c.place_all.ensures.placed ∙ ap (λ l. l ++ places ns 0 []) c.clear.ensures.none in
-    let b = back_code ns (vec_items c.place_all.new.out) p in
-    let h : ends ns 0 < 65535 = omega (arith, m.0.count, m.1, c.min-limit.ensures) in
-    record {
-      low = subst Low (sym p) (low_places ns 0 [] h);
-      aimed = search rules;
-      room = omega (arith, ap length b, emitted_long ns, m.0.count, m.1, c.min-limit.ensures, c.clear-4.ensures.cap, c.args.self.now.long);
-      clear = c.clear-3.ensures.items;
-      none = c.clear-4.ensures.items;
-      empty = c.clear-4.ensures.len;
-    }
+given : {A E : Type 0} (o : Option A) (e : E) (x : A) → ok_or o e ≡ Ok x → o ≡ Some x
+given (Some y) e x h = cc
+given None e x h = absurd (let z : ◌≡◌ {A = ℕ} 0 1 = cc in omega arith)
 
-pub lay-requires : goal.lay-requires
-lay-requires c =
+pub resolve-requires-clause-low : goal.resolve-requires-clause-low
+resolve-requires-clause-low c =
+    let m = subst (Measures c.args.items.now c.min-limit.result) (given c.measure.result _ _ (sym c.in_ok-figures.ensures.value)) c.measure.ensures in
+    let h : ends c.args.items.now 0 < 65535 = omega (arith, m.0.count, m.1, c.min-limit.ensures) in
+    subst Low (sym c.place_all.ensures) (low_places c.args.items.now 0 [] h)
+
+pub resolve-requires-clause-few : goal.resolve-requires-clause-few
+resolve-requires-clause-few c = omega (arith, ap length c.place_all.ensures, places_long c.args.items.now 0 [])
+
+pub resolve-requires-clause-room : goal.resolve-requires-clause-room
+resolve-requires-clause-room c =
     let ns = c.args.items.now in
-    let m = c.in-Some.ensures in
-    let p : vec_items c.place_all.new.out ≡ places ns 0 [] = c.place_all.ensures.placed ∙ ap (λ l. l ++ places ns 0 []) c.clear.ensures.none in
-    let b = back_code ns (vec_items c.place_all.new.out) p in
-    omega (arith, made_long c.resolve.new.code ns (c.resolve.ensures.code ∙ b), m.0.count, m.1, c.min-limit.ensures)
+    let m = subst (Measures ns c.min-limit.result) (given c.measure.result _ _ (sym c.in_ok-figures.ensures.value)) c.measure.ensures in
+    omega (arith, ap length (back_code ns c.place_all.new.out c.place_all.ensures), emitted_long ns, m.0.count, m.1, c.min-limit.ensures)
+
+pub hand_over-requires : goal.hand_over-requires
+hand_over-requires c =
+    let ns = c.args.items.now in
+    let m = subst (Measures ns c.min-limit.result) (given c.measure.result _ _ (sym c.in_ok-figures.ensures.value)) c.measure.ensures in
+    let e = ap (λ (z : Back). z.code) c.resolve.ensures ∙ back_code ns c.place_all.new.out c.place_all.ensures in
+    omega (arith, ap length e, emitted_long ns, m.0.count, m.1, c.min-limit.ensures)
 
 pub returns : goal.returns
 returns c =
     let ns = c.args.items.now in
-    let m = c.in-Some.ensures in
-    let p : vec_items c.place_all.new.out ≡ places ns 0 [] = c.place_all.ensures.placed ∙ ap (λ l. l ++ places ns 0 []) c.clear.ensures.none in
-    let b = back_code ns (vec_items c.place_all.new.out) p in
-    let e : tops c.resolve.new.code ≡ emitted ns = c.resolve.ensures.code ∙ b in
-    let l : vec_len c.resolve.new.code ≡ c.in-Some.figures.count = made_long c.resolve.new.code ns e ∙ sym m.0.count in
-    (omega arith, m.0, omega (arith, m.1, c.min-limit.ensures), c.lay.ensures.laid ∙ rw (e, l))
+    let m = subst (Measures ns c.min-limit.result) (given c.measure.result _ _ (sym c.in_ok-figures.ensures.value)) c.measure.ensures in
+    let e = ap (λ (z : Back). z.code) c.resolve.ensures ∙ back_code ns c.place_all.new.out c.place_all.ensures in
+    let l = ap length e ∙ emitted_long ns ∙ sym m.0.count in
+    (omega arith, m.0, omega (arith, m.1, c.min-limit.ensures), c.hand_over.ensures ∙ rw (l, e))

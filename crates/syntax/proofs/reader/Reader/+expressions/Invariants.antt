@@ -11,9 +11,6 @@ decreases-chain l = 48 * l.levels + depth l.s
 abbrev pub decreases-first : goal.decreases-first
 decreases-first l = 48 * l.levels + (depth l.s - 1)
 
-abbrev pub decreases-joined : goal.decreases-joined
-decreases-joined l = 48 * l.levels + (depth l.s - 1)
-
 abbrev pub decreases-operand : goal.decreases-operand
 decreases-operand l = 48 * l.levels + (depth l.s - 2)
 
@@ -38,8 +35,8 @@ decreases-named l = 48 * l.levels + 8
 abbrev pub decreases-paren : goal.decreases-paren
 decreases-paren l = 48 * l.levels + 6
 
-abbrev pub invariant-chain-loop : goal.invariant-chain-loop
-invariant-chain-loop l = Sofar (more l.s l.levels ∷ []) l.initial.self l.self
+abbrev pub invariant-chain-loop-o : goal.invariant-chain-loop-o
+invariant-chain-loop-o l = Sofar (more l.s l.levels ∷ []) l.initial.self l.self
 
-abbrev pub decreases-chain-loop : goal.decreases-chain-loop
-decreases-chain-loop l = weight l.self
+abbrev pub decreases-chain-loop-o : goal.decreases-chain-loop-o
+decreases-chain-loop-o l = weight l.self

@@ -4,8 +4,8 @@ use Rattle.syntax.specs.Readers.{weight}
 use Rattle.syntax.proofs.Sofar.{Sofar}
 use Rattle.syntax.proofs.reader.Reader.declarations.Given as goal
 
-abbrev pub invariant-loop : goal.invariant-loop
-invariant-loop l = Sofar (declarations ∷ []) l.initial.self l.self
+abbrev pub invariant-loop-kind : goal.invariant-loop-kind
+invariant-loop-kind l = Sofar (declarations ∷ []) l.initial.self l.self
 
-abbrev pub decreases-loop : goal.decreases-loop
-decreases-loop l = weight l.self
+abbrev pub decreases-loop-kind : goal.decreases-loop-kind
+decreases-loop-kind l = weight l.self

@@ -4,8 +4,8 @@ use Rattle.syntax.specs.Readers.{weight}
 use Rattle.syntax.proofs.Sofar.{Sofar}
 use Rattle.syntax.proofs.reader.Reader.fields.Given as goal
 
-abbrev pub invariant-loop : goal.invariant-loop
-invariant-loop l = Sofar (fields ∷ []) l.initial.self l.self
+abbrev pub invariant-loop-self : goal.invariant-loop-self
+invariant-loop-self l = Sofar (fields ∷ []) l.initial.self l.self
 
-abbrev pub decreases-loop : goal.decreases-loop
-decreases-loop l = weight l.self
+abbrev pub decreases-loop-self : goal.decreases-loop-self
+decreases-loop-self l = weight l.self

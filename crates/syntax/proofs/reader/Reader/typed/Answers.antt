@@ -9,4 +9,4 @@ returns c =
     let r = c.args.self.now in
     let g = c.args.kind in
     let e : (k : List Goal) → runs r (typed g ∷ k) ≡ runs r (simple g ∷ comma false g ∷ k) = search rules in
-    same 0 0 (simple g ∷ comma false g ∷ []) (typed g ∷ []) r c.names.new.self c.names.result e c.names.ensures
+    same 0 0 (simple g ∷ comma false g ∷ []) (typed g ∷ []) r c.listed-2.new.self c.listed-2.result e c.listed-2.ensures

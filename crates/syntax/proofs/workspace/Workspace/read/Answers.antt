@@ -1,6 +1,6 @@
 use Rattle.std.proofs.Common.{◌≤◌, length, rules}
 use Rattle.std.proofs.lemmas.Result.{err_from_is_err_and}
-use Rattle.syntax.proofs.Whole.{short_source, read_text, read_whole}
+use Rattle.syntax.proofs.Whole.{entries_none, short_source, read_text, read_whole}
 use Rattle.syntax.proofs.workspace.Workspace.read.Goals as goal
 
 pub whole-requires : goal.whole-requires
@@ -11,11 +11,11 @@ whole-requires c =
 pub returns-in_err-check : goal.returns-in_err-check
 returns-in_err-check c =
     let p = err_from_is_err_and c.from_residual.result c.from_residual.ensures.1 in
-    rw (p.1, p.2) (read_text c.args.source.now _ c.in_err-check.ensures, c.clear.ensures.items)
+    rw (p.1, p.2) (read_text c.args.source.now _ c.in_err-check.ensures, entries_none _ c.clear.ensures)
 
 pub returns-in-Ok : goal.returns-in-Ok
-returns-in-Ok c = read_whole c.args.source.now _ _ c.in_ok-check.ensures c.clear.ensures.items c.in-Ok.ensures.exact
+returns-in-Ok c = read_whole c.args.source.now _ _ c.in_ok-check.ensures (entries_none _ c.clear.ensures) c.in-Ok.ensures
 
 pub returns-in-Err : goal.returns-in-Err
 returns-in-Err c =
-    (read_whole c.args.source.now _ _ c.in_ok-check.ensures c.clear.ensures.items c.in-Err.ensures.exact, c.clear-in-Err.ensures.items)
+    (read_whole c.args.source.now _ _ c.in_ok-check.ensures (entries_none _ c.clear.ensures) c.in-Err.ensures, entries_none _ c.clear-in-Err.ensures)
