@@ -1,4 +1,4 @@
-// Words bit by bit.
+// Words bit by bit. Each is one operator of the language: a function over operators would take the operator itself.
 ghost use Rattle.std.specs.Prelude.{◌≡◌, bit_and, bit_or, bit_xor};
 ghost use Rattle.arith.specs.Bits.{complement as complement_of};
 

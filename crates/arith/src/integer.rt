@@ -35,6 +35,7 @@ pub fn fit(v: i32) -> Result<u16, Stop>
     }
 }
 
+// This and the next two are one line each, and their definitions are three: a function over the operation would hide it.
 pub fn add(y: u16, x: u16) -> Result<u16, Stop>
     ensures { result ≡ sum y x }
 {

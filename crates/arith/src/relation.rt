@@ -63,7 +63,7 @@ impl Relation {
     }
 }
 
-// INTEGERs.
+// INTEGERs. This and the next are one line each over `holds`: a function over how words are read would be longer.
 #[tactic(auto, unfolding(crate::specs::Relations::compared))]
 pub fn compare(by: Relation, y: u16, x: u16) -> u16
     ensures { result ≡ compared by y x }

@@ -4,42 +4,25 @@ ghost use Rattle.machine.specs.declared.ending.Ending.TheVariants.{Stopped, BadO
 ghost use Rattle.machine.specs.Endings.{number_of};
 
 use arith::stop::Stop;
-use std::fmt;
+use thiserror::Error;
 use words::op::UnknownOp;
 use words::store::StoreFault;
 
-#[derive(Clone, Copy, PartialEq, Eq, Debug)]
+#[derive(Clone, Copy, PartialEq, Eq, Debug, Error)]
 pub enum Ending {
+    #[error("the code has halted")]
     Halted,
-    // An operation on words has no answer.
+    // an operation on words has no answer
+    #[error(transparent)]
     Stopped(Stop),
-    // The stack has too few words.
+    #[error("the stack has too few words")]
     Missing,
-    // The stack would grow above the depth.
+    #[error("the stack would grow above its depth")]
     TooHigh,
-    // There is no such instruction, or an operand is outside the rules.
+    #[error("there is no such instruction, or an operand is outside its rules")]
     BadOperand,
-    // The place is past the code, or the cell past the store.
+    #[error("there is no instruction at the place, or no such cell in the store")]
     Outside,
-}
-
-impl fmt::Display for Ending {
-    fn fmt<W: fmt::Write>(&self, f: &mut fmt::Formatter<W>) -> fmt::Result {
-        match self {
-            Ending::Halted => write!(f, "the code has halted"),
-            Ending::Stopped(stop) => write!(f, "{stop}"),
-            Ending::Missing => write!(f, "the stack has too few words"),
-            Ending::TooHigh => write!(f, "the stack would grow above its depth"),
-            Ending::BadOperand => write!(
-                f,
-                "there is no such instruction, or an operand is outside its rules"
-            ),
-            Ending::Outside => write!(
-                f,
-                "there is no instruction at the place, or no such cell in the store"
-            ),
-        }
-    }
 }
 
 impl From<Ending> for u8 {

@@ -3,24 +3,23 @@ ghost use Rattle.std.specs.Prelude.{◌≡◌};
 ghost use Rattle.session.specs.declared.fault.CallFault.TheVariants.{Session, Store};
 ghost use Rattle.session.specs.Faults.{refusal_of};
 
-use std::error::Error;
-use std::fmt;
+use thiserror::Error;
 use words::refusal::Refusal;
 use words::store::StoreFault;
 
-#[derive(Clone, Copy, PartialEq, Eq, Debug)]
+#[derive(Clone, Copy, PartialEq, Eq, Debug, Error)]
 pub enum SessionFault {
-    // no instruction, or over 16,383
+    #[error("the code has no instruction, or more than 16383")]
     BadCode,
-    // fewer stack words than the depth
+    #[error("the stack has fewer words than the code needs")]
     ShortStack,
-    // fewer cells in the store than the code uses
+    #[error("the store has fewer cells than the code uses")]
     ShortStore,
-    // a limit of 0 steps
+    #[error("the limit is 0 steps")]
     NoSteps,
-    // the run has ended
+    #[error("the run has ended")]
     Ended,
-    // 4,000,000,000 steps were made
+    #[error("all 4000000000 steps were made")]
     UsedUp,
 }
 
@@ -40,25 +39,13 @@ impl From<SessionFault> for Refusal {
     }
 }
 
-impl fmt::Display for SessionFault {
-    fn fmt<W: fmt::Write>(&self, f: &mut fmt::Formatter<W>) -> fmt::Result {
-        f.write_str(match self {
-            SessionFault::BadCode => "the code has no instruction, or more than 16383",
-            SessionFault::ShortStack => "the stack has fewer words than the code needs",
-            SessionFault::ShortStore => "the store has fewer cells than the code uses",
-            SessionFault::NoSteps => "the limit is 0 steps",
-            SessionFault::Ended => "the run has ended",
-            SessionFault::UsedUp => "all 4000000000 steps were made",
-        })
-    }
-}
-
-impl Error for SessionFault {}
 
 // Why a call has no answer.
-#[derive(Clone, Copy, PartialEq, Eq, Debug)]
+#[derive(Clone, Copy, PartialEq, Eq, Debug, Error)]
 pub enum CallFault {
+    #[error(transparent)]
     Session(SessionFault),
+    #[error(transparent)]
     Store(StoreFault),
 }
 
@@ -78,25 +65,8 @@ impl From<StoreFault> for CallFault {
     }
 }
 
-impl fmt::Display for CallFault {
-    fn fmt<W: fmt::Write>(&self, f: &mut fmt::Formatter<W>) -> fmt::Result {
-        match self {
-            CallFault::Session(e) => write!(f, "{e}"),
-            CallFault::Store(e) => write!(f, "{e}"),
-        }
-    }
-}
 
-impl Error for CallFault {}
-
-// There are fewer places for answers than calls.
-#[derive(Clone, Copy, PartialEq, Eq, Debug)]
+// No call is made.
+#[derive(Clone, Copy, PartialEq, Eq, Debug, Error)]
+#[error("there are fewer places for answers than calls")]
 pub struct TooFewPlaces;
-
-impl fmt::Display for TooFewPlaces {
-    fn fmt<W: fmt::Write>(&self, f: &mut fmt::Formatter<W>) -> fmt::Result {
-        f.write_str("there are fewer places for answers than calls")
-    }
-}
-
-impl Error for TooFewPlaces {}

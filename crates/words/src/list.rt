@@ -3,7 +3,7 @@ ghost use Rattle.std.specs.Prelude.{◌≤◌, length};
 
 mod ops;
 
-// The elements are the first `len` cells; the cells past them keep what they held.
+// The elements are the first `len` cells; the cells past them keep what they held. No `Vec`: the caller's table is lent.
 #[derive(Drop)]
 pub struct Bounded<'a, T> {
     cells: &'a mut [T],

@@ -90,3 +90,30 @@ impl<T: Copy, const N: usize> Reserved<T, N> {
         }
     }
 }
+
+#[cfg(test)]
+mod tests {
+    use super::*;
+
+    #[test]
+    fn what_is_put_comes_back_from_the_top(rt: HostRuntime) {
+        match Reserved::<u16, 3>::new(rt.alloc()) {
+            Ok(mut list) => {
+                list.push(7);
+                list.push(8);
+                assert_eq!(rt; list.peek(1), Some(7), "below the top");
+                assert_eq!(rt; list.pop(), Some(8), "the top");
+                list.push(9);
+                assert_eq!(rt; list.len(), 2, "both");
+                let mut table = [0, 0, 5];
+                list.hand_over(&mut table);
+                assert_eq!(rt;
+                    table,
+                    [9, 7, 5],
+                    "the top first, and what lies past them is kept"
+                );
+            }
+            Err(_) => assert!(rt; false, "there is memory for three words"),
+        }
+    }
+}

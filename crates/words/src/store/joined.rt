@@ -14,7 +14,7 @@ pub struct Joined<'a, 'b, X, Y> {
     pub second: &'b mut Y,
 }
 
-// Which store has the cell, and as which of its own.
+// Which store has the cell, and as which of its own. The cases say which; they are no success and no failure.
 #[derive(Clone, Copy)]
 pub enum Half {
     First(u16),
