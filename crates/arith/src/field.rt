@@ -3,7 +3,7 @@ ghost use Rattle.std.specs.Prelude.{◌≡◌, true, false, MatchOption};
 ghost use Rattle.arith.specs.Fields.{is_field, field, deposited};
 
 // `count` bits from the bit `from`: from 1 to 15, and not past the word.
-#[derive(Clone, Copy)]
+#[derive(Clone, Copy, PartialEq, Eq, Debug)]
 pub struct Field {
     from: u16,
     count: u16,

@@ -9,7 +9,7 @@ const LEAST: i32 = -32768;
 
 const GREATEST: i32 = 32767;
 
-// The INTEGER that a word is.
+// The INTEGER that a word is. This and the next are in the definitions' two cases, which the library's casts do not show.
 pub fn value(w: u16) -> i32
     ensures exact { result ≡ int w }
     ensures small { Small result }

@@ -48,7 +48,8 @@ impl TryFrom<u16> for Relation {
 }
 
 impl Relation {
-    // Whether it holds, where it is known whether the left is less, and whether both are the same.
+    // Whether it holds, where it is known whether the left is less, and whether both are the same: the definition asks these
+    // two.
     fn holds(self, less: bool, same: bool) -> bool
         ensures { result ≡ holds_of self less same }
     {

@@ -44,7 +44,7 @@ impl TryFrom<u16> for Kind {
 }
 
 // A shift by a count of at most 15.
-#[derive(Clone, Copy)]
+#[derive(Clone, Copy, PartialEq, Eq, Debug)]
 pub struct Shift {
     kind: Kind,
     count: u16,
@@ -52,7 +52,7 @@ pub struct Shift {
 }
 
 impl Shift {
-    // The shift whose kind has the number, which is at most 4.
+    // The shift whose kind has the number, which is at most 4. Its callers bring the two words of an instruction.
     pub fn new(number: u16, count: u16) -> Option<Shift>
         ensures { MatchOption result (is_shift number count ≡ false) (λ s. (is_shift number count ≡ true) × (s.kind ≡ kind_of number) × (s.count ≡ count)) }
     {
@@ -79,6 +79,7 @@ impl Shift {
                     65535 - ((65535 - x) >> b)
                 }
             }
+            // the two parts are added, as in the definition; the library's rotations OR them
             Kind::Csl => (x << b) + ((x as u32) >> (16 - b)) as u16,
             Kind::Csr => (x >> b) + (((x as u32) << (16 - b)) % 65536) as u16,
         }

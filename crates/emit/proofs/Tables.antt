@@ -3,7 +3,8 @@ use Rattle.std.proofs.Common.{◌≡◌, ℕ, zero, suc, ◌+◌, ◌-◌, ◌�
 use Rattle.std.specs.List.{slice_get}
 use Rattle.std.proofs.lemmas.Option.{slice_get-map, slice_get_cases}
 use Rattle.words.specs.declared.op.Op.{Op}
-use Rattle.words.specs.Ops.{ops, number_of}
+use Rattle.words.specs.declared.op.Op.TheVariants as op
+use Rattle.words.specs.Ops.{ops, number_of, taken_by}
 use Rattle.typed.specs.Instrs.{nth, takes_list, leaves_list, dropped}
 
 -- they count up from k
@@ -33,3 +34,40 @@ number_past n a e =
     let h = past ops n e in
     let m : n ≡ suc (suc (suc (suc (suc (suc (suc (suc (suc (n - 9))))))))) = omega arith in
     (ap (λ k. dropped k a) m, nth_past takes_list n (omega arith), nth_past leaves_list n (omega arith))
+
+-- an instruction takes what its number does
+pub taken : (o : Op) (a : ℕ) → taken_by o a ≡ dropped (number_of o) a + nth takes_list (number_of o)
+taken op.Halt a = refl
+taken op.Lit a = refl
+taken op.Load a = refl
+taken op.Stor a = refl
+taken op.Ldx a = refl
+taken op.Stx a = refl
+taken op.Chk a = refl
+taken op.Dup a = refl
+taken op.Drop a = omega arith
+taken op.Add a = refl
+taken op.Sub a = refl
+taken op.Mul a = refl
+taken op.Div a = refl
+taken op.Rem a = refl
+taken op.Neg a = refl
+taken op.Ladd a = refl
+taken op.Lsub a = refl
+taken op.Lmul a = refl
+taken op.Ldiv a = refl
+taken op.Lrem a = refl
+taken op.Cmp a = refl
+taken op.Lcmp a = refl
+taken op.And a = refl
+taken op.Or a = refl
+taken op.Xor a = refl
+taken op.Not a = refl
+taken op.Fld a = refl
+taken op.Dep a = refl
+taken op.Shf a = refl
+taken op.Br a = refl
+taken op.Bre a = refl
+taken op.Case a = refl
+taken op.For a = refl
+taken op.Next a = refl

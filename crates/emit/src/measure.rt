@@ -11,24 +11,11 @@ use words::instr::Instr;
 use words::op::Op;
 
 // The words that an instruction takes off the stack: DROP as many as its operand says.
+#[tactic(auto, using(crate::proofs::Tables::taken))]
 fn takes(op: Op, a: u16) -> u32
     ensures { result ≡ dropped (number_of op) a + nth takes_list (number_of op) }
 {
-    match op {
-        Op::Drop => a as u32,
-        Op::Halt | Op::Lit | Op::Load | Op::Br => 0,
-        Op::Stor
-        | Op::Ldx
-        | Op::Chk
-        | Op::Dup
-        | Op::Neg
-        | Op::Not
-        | Op::Fld
-        | Op::Shf
-        | Op::Bre
-        | Op::Case => 1,
-        _ => 2,
-    }
+    u32::from(op.takes(a))
 }
 
 // Those that it leaves there.

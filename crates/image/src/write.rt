@@ -25,21 +25,11 @@ pub fn entry_size(i: Instr) -> Option<usize>
     ensures value { result ≡ size_of i }
     ensures small { IfSome result (λ n. n ≤ 9) }
 {
-    match operands(i.number) {
-        None => None,
-        Some(0) => {
-            if i.a != 0 || i.b != 0 {
-                return None;
-            }
-            Some(size(i.number))
-        }
-        Some(1) => {
-            if i.b != 0 {
-                return None;
-            }
-            Some(size(i.number) + size(i.a))
-        }
-        Some(_) => Some(size(i.number) + size(i.a) + size(i.b)),
+    match operands(i.number)? {
+        0 if i.a == 0 && i.b == 0 => Some(size(i.number)),
+        1 if i.b == 0 => Some(size(i.number) + size(i.a)),
+        0 | 1 => None,
+        _ => Some(size(i.number) + size(i.a) + size(i.b)),
     }
 }
 
@@ -114,10 +104,7 @@ fn measure(code: &[Instr]) -> Result<usize, ImageFault>
 {
     let mut bytes = 0;
     for (i, entry) in code.iter().enumerate() {
-        match entry_size(*entry) {
-            Some(n) => bytes += n,
-            None => return Err(ImageFault::BadEntry(i)),
-        }
+        bytes += entry_size(*entry).ok_or(ImageFault::BadEntry(i))?;
     }
     Ok(bytes)
 }

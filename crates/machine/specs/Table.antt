@@ -8,7 +8,7 @@ use Rattle.arith.specs.Bits.{complement}
 use Rattle.arith.specs.Fields.{is_field, field, deposited}
 use Rattle.arith.specs.Shifts.{is_shift, kind_of, shifted}
 use Rattle.words.specs.declared.instr.Instr.{Instr}
-use Rattle.words.specs.Ops.{ops}
+use Rattle.words.specs.Ops.{ops, taken_by}
 use Rattle.machine.specs.declared.ending.Ending.{Ending}
 use Rattle.machine.specs.declared.ending.Ending.TheVariants.{Halted, Stopped, Missing, BadOperand, Outside}
 use Rattle.machine.specs.declared.vm.Move.{Move}
@@ -76,40 +76,7 @@ fine Next a b = true
 
 -- how many words have to be there
 abbrev pub wants : Op → ℕ → ℕ
-wants Halt a = 0
-wants Lit a = 0
-wants Load a = 0
-wants Stor a = 1
-wants Ldx a = 1
-wants Stx a = 2
-wants Chk a = 1
-wants Dup a = 1
-wants Drop a = a
-wants Add a = 2
-wants Sub a = 2
-wants Mul a = 2
-wants Div a = 2
-wants Rem a = 2
-wants Neg a = 1
-wants Ladd a = 2
-wants Lsub a = 2
-wants Lmul a = 2
-wants Ldiv a = 2
-wants Lrem a = 2
-wants Cmp a = 2
-wants Lcmp a = 2
-wants And a = 2
-wants Or a = 2
-wants Xor a = 2
-wants Not a = 1
-wants Fld a = 1
-wants Dep a = 2
-wants Shf a = 1
-wants Br a = 0
-wants Bre a = 1
-wants Case a = 1
-wants For a = 2
-wants Next a = 2
+wants o a = taken_by o a
 
 -- the operands are in order, and the words are there
 abbrev pub readied : Op → ℕ → ℕ → ℕ → Result (Unit {0}) Ending

@@ -1,6 +1,6 @@
 // What one instruction does, worked out without changing anything.
 ghost use Rattle.std.specs.Prelude.{◌≡◌, ◌-◌, ◌<◌, Ok, Err, true, MatchResult, slice_index};
-ghost use Rattle.machine.specs.Table.{fine, wants, decoded, readied, moved};
+ghost use Rattle.machine.specs.Table.{fine, decoded, readied, moved};
 
 use super::ending::Ending;
 use super::view::View;
@@ -31,27 +31,6 @@ fn fits(op: Op, a: u16, b: u16) -> bool
     }
 }
 
-// How many words it looks at.
-fn count(op: Op, a: u16) -> u16
-    ensures { result ≡ wants op a }
-{
-    match op {
-        Op::Halt | Op::Lit | Op::Load | Op::Br => 0,
-        Op::Stor
-        | Op::Ldx
-        | Op::Chk
-        | Op::Dup
-        | Op::Neg
-        | Op::Not
-        | Op::Fld
-        | Op::Shf
-        | Op::Bre
-        | Op::Case => 1,
-        Op::Drop => a,
-        _ => 2,
-    }
-}
-
 // The operands are in order, and the words are there.
 fn ready(op: Op, a: u16, b: u16, height: u16) -> Result<(), Ending>
     ensures { MatchResult result (λ _. (readied op a b height ≡ Ok tt) × (fine op a b ≡ true)) (λ e. readied op a b height ≡ Err e) }
@@ -59,7 +38,7 @@ fn ready(op: Op, a: u16, b: u16, height: u16) -> Result<(), Ending>
     if !fits(op, a, b) {
         return Err(Ending::BadOperand);
     }
-    if height < count(op, a) {
+    if height < op.takes(a) {
         return Err(Ending::Missing);
     }
     Ok(())

@@ -39,7 +39,6 @@ impl From<SessionFault> for Refusal {
     }
 }
 
-
 // Why a call has no answer.
 #[derive(Clone, Copy, PartialEq, Eq, Debug, Error)]
 pub enum CallFault {
@@ -64,7 +63,6 @@ impl From<StoreFault> for CallFault {
         CallFault::Store(e)
     }
 }
-
 
 // No call is made.
 #[derive(Clone, Copy, PartialEq, Eq, Debug, Error)]

@@ -2,7 +2,7 @@
 use crate::instr::Instr;
 
 // The cells that a code uses, the stack words that it needs, and its instructions.
-#[derive(Clone, Copy)]
+#[derive(Clone, Copy, PartialEq, Eq, Debug)]
 pub struct Code<'a> {
     pub cells: u16,
     pub depth: u16,

@@ -1,4 +1,5 @@
-// Words, and what every layer shares: refusals, instruction records, the bounded list and the stores.
+// Words, and what every layer shares: refusals, instructions and codes, the bounded list, the list with reserved room, and
+// the stores.
 #![tactic(auto)]
 
 pub mod code;

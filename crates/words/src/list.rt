@@ -3,7 +3,8 @@ ghost use Rattle.std.specs.Prelude.{◌≤◌, length};
 
 mod ops;
 
-// The elements are the first `len` cells; the cells past them keep what they held. No `Vec`: the caller's table is lent.
+// The elements are the first `len` cells; the cells past them keep what they held. No `Vec`, as a rule: it is the bounded list over
+// a slice that the caller lends.
 #[derive(Drop)]
 pub struct Bounded<'a, T> {
     cells: &'a mut [T],

@@ -1,6 +1,6 @@
 // The instructions.
 ghost use Rattle.std.specs.Prelude.{◌≡◌, MatchResult, Some, None, slice_get};
-ghost use Rattle.words.specs.Ops.{ops, number_of, named_by};
+ghost use Rattle.words.specs.Ops.{ops, number_of, named_by, taken_by};
 
 use std::fmt;
 use thiserror::Error;
@@ -99,6 +99,7 @@ impl TryFrom<u16> for Op {
 
     ghost try_from_gives = { λ number r. MatchResult r (λ op. slice_get ops number ≡ Some op) (λ _. slice_get ops number ≡ None) };
 
+    // Not by `get`: the search then knows nothing of the answer (tried).
     fn try_from(number: u16) -> Result<Op, UnknownOp> {
         if number > 33 {
             return Err(UnknownOp(number));
@@ -126,9 +127,30 @@ impl Op {
             _ => 0,
         }
     }
+
+    // How many words it looks at on the stack; DROP, as many as its operand says.
+    pub fn takes(self, a: u16) -> u16
+        ensures { result ≡ taken_by self a }
+    {
+        match self {
+            Op::Halt | Op::Lit | Op::Load | Op::Br => 0,
+            Op::Stor
+            | Op::Ldx
+            | Op::Chk
+            | Op::Dup
+            | Op::Neg
+            | Op::Not
+            | Op::Fld
+            | Op::Shf
+            | Op::Bre
+            | Op::Case => 1,
+            Op::Drop => a,
+            _ => 2,
+        }
+    }
 }
 
-// How a listing names it.
+// How a listing names it. By hand: of enums only errors have a derive that prints.
 impl fmt::Display for Op {
     fn fmt<W: fmt::Write>(&self, f: &mut fmt::Formatter<W>) -> fmt::Result {
         f.pad(match self {

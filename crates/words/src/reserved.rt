@@ -1,5 +1,5 @@
 // A list in memory of its own with room for N, reserved when it was made: what is put on it cannot fail. Its end is the
-// top of a stack.
+// top of a stack. A `Vec`, since N is too large for a value that lies in place, as the kit's `ArrayVec` does.
 ghost use Rattle.std.specs.Prelude.{◌≡◌, ◌<◌, ◌≤◌, List, [], ◌∷◌, ◌++◌, IfOk, MatchOption, drop, length, reverse, slice_get, vec_capacity};
 ghost use Rattle.words.specs.Stacks.{below};
 

@@ -12,7 +12,7 @@ pub struct Bytes<'a> {
     pub cells: &'a mut [u8],
 }
 
-// The word that begins at the byte `i`.
+// The word that begins at the byte `i`, as the definition puts it together.
 fn at(cells: &[u8], i: usize) -> u16
     requires { i + 1 < length cells.now }
     ensures { result ≡ pair (slice_index cells.now i) (slice_index cells.now (i + 1)) }

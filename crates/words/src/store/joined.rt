@@ -15,7 +15,7 @@ pub struct Joined<'a, 'b, X, Y> {
 }
 
 // Which store has the cell, and as which of its own. The cases say which; they are no success and no failure.
-#[derive(Clone, Copy)]
+#[derive(Clone, Copy, PartialEq, Eq, Debug)]
 pub enum Half {
     First(u16),
     Second(u16),
