@@ -1,14 +1,10 @@
 -- The typed list of a source that passed every stage.
 use Rattle.std.specs.Prelude.{ℕ, suc, List, [], ◌∷◌, ◌++◌, Some, None, Option, slice_index}
 use Rattle.arith.specs.declared.relation.Relation.TheVariants as relation
-use Rattle.arith.specs.declared.shift.Kind.{Kind as Shifting}
-use Rattle.arith.specs.declared.shift.Kind.TheVariants as shifting
 use Rattle.text.specs.declared.token.Kind.{Kind}
 use Rattle.text.specs.declared.token.Kind.TheVariants.{Integer, Logical}
 use Rattle.syntax.specs.declared.node.Operator.{Operator}
 use Rattle.syntax.specs.declared.node.Operator.TheVariants.{Times, Divide, Mod, Plus, Minus, Equal, Unequal, Less, AtMost, Greater, AtLeast, Land, Xor, Lor}
-use Rattle.syntax.specs.declared.node.ShiftKind.{ShiftKind}
-use Rattle.syntax.specs.declared.node.ShiftKind.TheVariants.{Lsl, Lsr, Asr, Csl, Csr}
 use Rattle.syntax.specs.Entries.{Entry}
 use Rattle.syntax.specs.Entries as entry
 use Rattle.trees.specs.Trees.{Expr, number, load, index, binary, negate, lnot, convert, field, shift, Clause, test, and, Cond, only, or, Step, absent, by, Stmt, assign, assign_at, deposit, deposit_at, when, either, choose, while, repeat, count, Body, end, then, Arms, last, arm, Program}
@@ -42,13 +38,6 @@ op_of AtLeast k = by_kind k (typed.cmp relation.AtLeast) (typed.lcmp relation.At
 op_of Land k = typed.land
 op_of Xor k = typed.lxor
 op_of Lor k = typed.lor
-
-abbrev pub shifting_of : ShiftKind → Shifting
-shifting_of Lsl = shifting.Lsl
-shifting_of Lsr = shifting.Lsr
-shifting_of Asr = shifting.Asr
-shifting_of Csl = shifting.Csl
-shifting_of Csr = shifting.Csr
 
 -- the number of the first CASE that is to come
 abbrev pub first : List ℕ → ℕ
@@ -102,7 +91,7 @@ emits_step j (entry.Binary o p) = Some (item.Plain (op_instr (op_of o j)) ∷ []
 emits_step j (entry.Negate p) = Some (item.Plain (uop_instr typed.neg) ∷ [])
 emits_step j (entry.Lnot p) = Some (item.Plain (uop_instr typed.not) ∷ [])
 emits_step j (entry.Field a b p) = Some (item.Plain (uop_instr (typed.fld a b)) ∷ [])
-emits_step j (entry.Shift h c p) = Some (item.Plain (uop_instr (typed.shf (shifting_of h) c)) ∷ [])
+emits_step j (entry.Shift h c p) = Some (item.Plain (uop_instr (typed.shf h c)) ∷ [])
 emits_step j (entry.Deposit a b p) = Some (item.Plain (DEP a b) ∷ [])
 emits_step j entry.One = Some (item.Plain (LIT 1) ∷ [])
 emits_step j entry.Drop = Some (item.Plain (DROP 2) ∷ [])
@@ -299,7 +288,7 @@ resolve_e t (negate p a) = typed.un typed.neg (resolve_e t a)
 resolve_e t (lnot p a) = typed.un typed.not (resolve_e t a)
 resolve_e t (convert k a) = resolve_e t a
 resolve_e t (field a b p e) = typed.un (typed.fld a b) (resolve_e t e)
-resolve_e t (shift s c p e) = typed.un (typed.shf (shifting_of s) c) (resolve_e t e)
+resolve_e t (shift s c p e) = typed.un (typed.shf s c) (resolve_e t e)
 
 abbrev pub resolve_l : Table → Clause → typed.Clause
 resolve_l t (test p e) = typed.test (resolve_e t e)

@@ -10,13 +10,12 @@ ghost use Rattle.typed.specs.Instrs.{ins};
 ghost use Rattle.typed.specs.Lists.{op_instr};
 ghost use Rattle.checks.specs.Tables.{row_of};
 ghost use Rattle.checks.specs.Tabled.{table_as};
-ghost use Rattle.checks.specs.Writing.{op_of, shifting_of, emits, emits_name, emits_step, emits_mark};
+ghost use Rattle.checks.specs.Writing.{op_of, emits, emits_name, emits_step, emits_mark};
 ghost use Rattle.checks.specs.Emissions.{items_of, Narrow};
 
 use crate::table::NameTable;
 use arith::relation::Relation;
-use arith::shift;
-use syntax::node::{Node, Operator, ShiftKind};
+use syntax::node::{Node, Operator};
 use text::name::Name;
 use text::token::Kind;
 use typed::item::Item;
@@ -38,18 +37,6 @@ fn spot(table: &NameTable, name: Name) -> (u16, u16)
 {
     let e = table.entry(&name);
     (e.cell as u16, e.cells as u16)
-}
-
-fn shift_of(shift: ShiftKind) -> shift::Kind
-    ensures { result ≡ shifting_of shift }
-{
-    match shift {
-        ShiftKind::Lsl => shift::Kind::Lsl,
-        ShiftKind::Lsr => shift::Kind::Lsr,
-        ShiftKind::Asr => shift::Kind::Asr,
-        ShiftKind::Csl => shift::Kind::Csl,
-        ShiftKind::Csr => shift::Kind::Csr,
-    }
 }
 
 // An operator on INTEGERs, on LOGICALs, and the operand of both.
@@ -137,7 +124,7 @@ fn computing(kind: Kind, node: Node) -> Option<Emission>
         Node::Lnot(_) => Some(plain(Op::Not, 0, 0)),
         Node::Field(a, b, _) => Some(plain(Op::Fld, a, b)),
         Node::Deposit(a, b, _) => Some(plain(Op::Dep, a, b)),
-        Node::Shift(shift, count, _) => Some(plain(Op::Shf, shift_of(shift) as u16, count)),
+        Node::Shift(shift, count, _) => Some(plain(Op::Shf, shift as u16, count)),
         Node::One => Some(plain(Op::Lit, 1, 0)),
         Node::Drop => Some(plain(Op::Drop, 2, 0)),
         _ => None,

@@ -6,7 +6,7 @@ use Rattle.text.specs.declared.token.Keyword.{Keyword}
 use Rattle.text.specs.declared.token.Keyword.TheVariants as kw
 use Rattle.text.specs.declared.token.Symbol.{Symbol}
 use Rattle.text.specs.declared.token.Symbol.TheVariants as sign
-use Rattle.syntax.specs.declared.node.ShiftKind.{ShiftKind}
+use Rattle.arith.specs.declared.shift.Kind.{Kind as ShiftKind}
 use Rattle.syntax.specs.declared.lexeme.Strength.{Strength}
 use Rattle.syntax.specs.declared.lexeme.Strength.TheVariants as strength
 use Rattle.syntax.specs.Entries.{Entry}

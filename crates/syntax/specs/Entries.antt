@@ -3,7 +3,7 @@ use Rattle.std.specs.Prelude.{ℕ, List, map}
 use Rattle.text.specs.declared.token.Kind.{Kind}
 use Rattle.text.specs.Names.{name_of}
 use Rattle.syntax.specs.declared.node.Operator.{Operator}
-use Rattle.syntax.specs.declared.node.ShiftKind.{ShiftKind}
+use Rattle.arith.specs.declared.shift.Kind.{Kind as ShiftKind}
 use Rattle.syntax.specs.declared.node.Node.{Node}
 use Rattle.syntax.specs.declared.node.Node.TheVariants as node
 

@@ -10,7 +10,7 @@ use Rattle.text.specs.declared.token.Keyword.TheVariants as kw
 use Rattle.text.specs.declared.token.Symbol.{Symbol}
 use Rattle.text.specs.declared.token.Symbol.TheVariants as sign
 use Rattle.text.specs.Cut.{Piece, left}
-use Rattle.syntax.specs.declared.node.ShiftKind.{ShiftKind}
+use Rattle.arith.specs.declared.shift.Kind.{Kind as ShiftKind}
 use Rattle.syntax.specs.declared.lexeme.Strength.{Strength}
 use Rattle.syntax.specs.declared.lexeme.Strength.TheVariants as strength
 use Rattle.syntax.specs.declared.lexeme.Opening.{Opening}

@@ -16,8 +16,8 @@ use Rattle.syntax.specs.declared.fault.GrammarFault.{GrammarFault}
 use Rattle.syntax.specs.declared.fault.GrammarFault.TheVariants.{TooDeep}
 use Rattle.syntax.specs.declared.node.Operator.{Operator}
 use Rattle.syntax.specs.declared.node.Operator.TheVariants as operator
-use Rattle.syntax.specs.declared.node.ShiftKind.{ShiftKind}
-use Rattle.syntax.specs.declared.node.ShiftKind.TheVariants as shift
+use Rattle.arith.specs.declared.shift.Kind.{Kind as ShiftKind}
+use Rattle.arith.specs.declared.shift.Kind.TheVariants as shift
 use Rattle.syntax.specs.declared.lexeme.Sort.{Sort}
 use Rattle.syntax.specs.declared.lexeme.Sort.TheVariants as sort
 use Rattle.syntax.specs.declared.lexeme.Lexeme.{Lexeme}

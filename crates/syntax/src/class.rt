@@ -6,11 +6,11 @@ ghost use Rattle.text.specs.Names.{name_of};
 
 use crate::fault::GrammarFault;
 use crate::lexeme::{Lexeme, Opening, PlacedName, Sort, Strength};
-use crate::node::{Operator, ShiftKind};
+use crate::node::Operator;
+use arith::shift::Kind as ShiftKind;
 use text::token::{Keyword, Kind, Symbol};
 
-// The conversions below give an Option, and are no TryFrom: a word that is none of these is no error, so a type for
-// one would say nothing.
+// The conversions below answer an Option, and are no TryFrom: an error type would say nothing that None does not.
 fn operator_word(w: Keyword) -> Option<Operator>
     ensures { result ≡ operator_word w }
 {
@@ -112,6 +112,7 @@ impl Lexeme {
         GrammarFault::Unexpected(self.place)
     }
 
+    // Beside `is_keyword`: the two look at two different cases of one enum; one function over both needs a third type.
     pub(crate) fn is_symbol(self, want: Symbol) -> bool
         ensures value { result ≡ is_symbol want (mark_of self.sort) }
         ensures live { T result → live (mark_of self.sort) ≡ 1 }

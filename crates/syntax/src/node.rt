@@ -1,4 +1,5 @@
 // The syntax list: a source in written order, operands before their operator, with plain markers for control.
+use arith::shift::Kind as ShiftKind;
 use text::name::Name;
 use text::token::Kind;
 use words::reserved::Reserved;
@@ -25,15 +26,6 @@ pub enum Operator {
     Land,
     Xor,
     Lor,
-}
-
-#[derive(Clone, Copy, PartialEq, Eq, Debug)]
-pub enum ShiftKind {
-    Lsl,
-    Lsr,
-    Asr,
-    Csl,
-    Csr,
 }
 
 // One entry of the list. A `usize` is a place in the source, which a later refusal may name. No `PartialEq`: a name has

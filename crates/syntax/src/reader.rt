@@ -31,5 +31,6 @@ pub struct Reader<'a, 'w> {
     end: usize,
     out: &'w mut Nodes,
     // each token left, the one ahead with them, pays for two entries
+    // `Ready 2` and `Ready 1` ask for that many more: only where a token that was used up before still pays for them
     ghost room: { length out.now + 2 * (length rest.now + live (mark_of ahead.sort)) ≤ ROOM },
 }

@@ -3,7 +3,7 @@
 use Rattle.std.specs.Prelude.{List, ℕ}
 use Rattle.text.specs.declared.token.Kind.{Kind}
 use Rattle.syntax.specs.declared.node.Operator.{Operator}
-use Rattle.syntax.specs.declared.node.ShiftKind.{ShiftKind}
+use Rattle.arith.specs.declared.shift.Kind.{Kind as ShiftKind}
 
 pub data Expr : Type 0 where
   number : (value : ℕ) (kind : Kind) → Expr
