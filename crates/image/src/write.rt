@@ -21,6 +21,7 @@ pub fn size(n: u16) -> usize
 }
 
 // How many bytes an entry takes; none where no instruction has this number or an operand that is not named is not 0.
+#[tactic(auto, unfolding(crate::specs::Codes::good_entry, crate::specs::Codes::entry_bytes))]
 pub fn entry_size(i: Instr) -> Option<usize>
     ensures value { result ≡ size_of i }
     ensures small { IfSome result (λ n. n ≤ 9) }
@@ -104,7 +105,11 @@ fn measure(code: &[Instr]) -> Result<usize, ImageFault>
 {
     let mut bytes = 0;
     for (i, entry) in code.iter().enumerate() {
-        bytes += entry_size(*entry).ok_or(ImageFault::BadEntry(i))?;
+        // not `ok_or(..)?`: the sum's bound is then not seen from the size that was found (tried)
+        match entry_size(*entry) {
+            Some(n) => bytes += n,
+            None => return Err(ImageFault::BadEntry(i)),
+        }
     }
     Ok(bytes)
 }
