@@ -16,6 +16,7 @@ pub enum CompileFault {
     TooLong(usize),
 }
 
+// By hand: a derived one says nothing of the error that `?` makes.
 impl From<CheckFault> for CompileFault {
     ghost from_gives = { λ e r. r ≡ Check e };
 

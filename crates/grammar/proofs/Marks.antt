@@ -1,7 +1,8 @@
 -- Marks told apart: what one class of marks is, it is not of another. Assumes nothing.
 use Rattle.std.proofs.Common.{◌≡◌, ℕ, suc, ◌≤◌, max, Bool, true, false, cond, List, Some, None, Option, sym, refl, ap, ◌∙◌, arith}
 use Rattle.std.proofs.lemmas.Bool.{false_from_ne_true}
-use denote.Enum.Bare.{same_true, false_same}
+use denote.Enum.Bare.{same_true, false_same, true_same}
+use Rattle.grammar.specs.Theorems.{ToldApart}
 use Rattle.text.specs.declared.token.Kind.{Kind}
 use Rattle.text.specs.declared.token.Keyword.{Keyword}
 use Rattle.text.specs.declared.token.Keyword.TheVariants as kw
@@ -200,3 +201,11 @@ pub seen_live : (p : Piece) → is_stop (seen p).sort ≡ false
 seen_live (piece.word w p) = word_live w (keyword_of w)
 seen_live (piece.number w k v p) = refl
 seen_live (piece.symbol s p) = refl
+
+pub told_apart : ToldApart
+told_apart =
+    record {
+      symbols = λ a b. (same_true symbol_type tt a b, true_same symbol_type a b);
+      keywords = λ a b. (same_true keyword_type tt a b, true_same keyword_type a b);
+      strengths = λ a b. (same_true strength_type tt a b, true_same strength_type a b);
+    }

@@ -1,8 +1,11 @@
 -- What is proved of the reader, in the grammar's words.
-use Rattle.std.specs.Prelude.{◌≡◌, ℕ, List, map, Ok}
+use Rattle.std.specs.Prelude.{◌≡◌, ℕ, true, List, map, Ok}
+use Rattle.text.specs.declared.token.Keyword.{Keyword}
+use Rattle.text.specs.declared.token.Symbol.{Symbol}
+use Rattle.syntax.specs.declared.lexeme.Strength.{Strength}
 use Rattle.text.specs.Cut.{Piece}
 use Rattle.syntax.specs.Entries.{Entry}
-use Rattle.syntax.specs.Marks.{Tok, seen}
+use Rattle.syntax.specs.Marks.{Tok, seen, same_symbol, same_keyword, same_strength}
 use Rattle.syntax.specs.Works.{parse, syntaxed}
 use Rattle.trees.specs.Trees.{Program}
 use Rattle.trees.specs.Lists.{list}
@@ -23,3 +26,9 @@ ListsATree = (source : List ℕ) (es : List Entry) → syntaxed source ≡ Ok es
 -- one tree to its tokens, whatever levels it is read within
 abbrev pub OneTree : Type 0
 OneTree = (l m : ℕ) (p q : Program) (ts : List Tok) → ProgramWritten l p ts → ProgramWritten m q ts → p ≡ q
+
+-- what the reader compares is the same to it exactly where it is
+pub record ToldApart : Type 0 where
+  pub symbols : (a b : Symbol) → (same_symbol a b ≡ true → a ≡ b) × (a ≡ b → same_symbol a b ≡ true)
+  pub keywords : (a b : Keyword) → (same_keyword a b ≡ true → a ≡ b) × (a ≡ b → same_keyword a b ≡ true)
+  pub strengths : (a b : Strength) → (same_strength a b ≡ true → a ≡ b) × (a ≡ b → same_strength a b ≡ true)

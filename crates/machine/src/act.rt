@@ -5,6 +5,9 @@ ghost use Rattle.machine.specs.Table.{fine, decoded, readied, moved};
 use super::ending::Ending;
 use super::view::View;
 use super::vm::Move;
+use arith::field::Field;
+use arith::relation::Relation;
+use arith::shift::Shift;
 use words::instr::Instr;
 use words::op::Op;
 use words::store::Store;
@@ -24,9 +27,9 @@ fn fits(op: Op, a: u16, b: u16) -> bool
     match op {
         Op::Ldx | Op::Stx | Op::Case | Op::For | Op::Next => true,
         Op::Lit | Op::Load | Op::Stor | Op::Chk | Op::Drop | Op::Br | Op::Bre => b == 0,
-        Op::Cmp | Op::Lcmp => a <= 5 && b == 0,
-        Op::Fld | Op::Dep => 1 <= b && (b <= 15 && a <= 16 - b),
-        Op::Shf => a <= 4 && b <= 15,
+        Op::Cmp | Op::Lcmp => Relation::try_from(a).is_ok() && b == 0,
+        Op::Fld | Op::Dep => Field::new(a, b).is_some(),
+        Op::Shf => Shift::new(a, b).is_some(),
         _ => a == 0 && b == 0,
     }
 }

@@ -40,6 +40,7 @@ impl From<Ending> for u8 {
     }
 }
 
+// By hand, as those below: a derived one says nothing of the error that `?` makes.
 impl From<Stop> for Ending {
     ghost from_gives = { λ e r. r ≡ Stopped e };
 

@@ -48,6 +48,7 @@ pub enum CallFault {
     Store(StoreFault),
 }
 
+// By hand, as those below: a derived one says nothing of the error that `?` makes.
 impl From<SessionFault> for CallFault {
     ghost from_gives = { λ e r. r ≡ Session e };
 

@@ -19,6 +19,7 @@ pub enum GrammarFault {
     TooDeep(usize),
 }
 
+// By hand: a derived one says nothing of the error that `?` makes.
 impl From<TextFault> for GrammarFault {
     ghost from_gives = { λ e r. r ≡ Text e };
 

@@ -6,7 +6,8 @@ ghost use Rattle.text.specs.Names.{name_of, short_name};
 use crate::search::Named;
 
 // At most 15 bytes: the first `len` of `bytes`.
-// The bytes stand in the name, since an entry borrows nothing; an `ArrayVec` would not be Copy, as entries are.
+// The bytes stand in the name, since an entry borrows nothing and is Copy. The kit's `ArrayVec` is not Copy, and its
+// `ArrayString` holds UTF-8 alone, while a name is made of any bytes.
 // No `PartialEq`: the type does not say that the bytes past `len` are alike.
 // No ghost field says that `len` is at most 15: the borrow checker then does not take the table of entries where an
 // entry is completed in its place (it was tried).

@@ -17,7 +17,8 @@ fn is_word_byte(b: u8) -> bool
     matches!(b, b'A'..=b'Z' | b'0'..=b'9' | b'\'')
 }
 
-// How many bytes of a word stand at the front, and how many digits: a function for each, so that callers have an equation.
+// How many bytes of a word stand at the front, and below how many digits. One function that takes the test would be no
+// plainer: its clause would speak of every test, where these name the one.
 fn word_len(s: &[u8]) -> usize
     ensures value { result ≡ prefix_len word_byte s.now }
     ensures bound { result ≤ length s.now }
@@ -170,7 +171,7 @@ impl<'a> Rest<'a> {
 }
 
 // The next token of `text`, which stops at the place `end`, and the text after it; none at its end.
-// The two are no struct: a reader that calls holds them in its own, and would put them together at each call.
+// The two are no struct here: this and `peek` are called as they always were, by readers that hold both in their own.
 pub fn next<'a>(text: &'a [u8], end: usize) -> Result<Option<(Token<'a>, &'a [u8])>, TextFault>
     ensures exact { nexted result ≡ next_of end text.now }
     ensures steps { Steps end text.now result }

@@ -35,8 +35,7 @@ pub enum TokensFault {
     Memory,
 }
 
-// By hand: a derived `From` does not say which error it makes.
-
+// By hand, as those below: a derived one says nothing of the error that `?` makes.
 impl From<TextFault> for TokensFault {
     ghost from_gives = { λ e r. r ≡ Text e };
 
