@@ -22,6 +22,7 @@ use typed::item::Item;
 use words::instr::Instr;
 use words::op::Op;
 
+// At most two items, in the value itself: with a list the arms below would be longer.
 #[derive(Clone, Copy, PartialEq, Eq, Debug)]
 pub enum Emission {
     Nothing,
@@ -29,7 +30,8 @@ pub enum Emission {
     Two(Item, Item),
 }
 
-// The first cell of a name and how many it has.
+// The first cell of a name and how many it has. A table is narrow only once the stage of sizes has passed, so it is no fact
+// of its type.
 fn spot(table: &NameTable, name: Name) -> (u16, u16)
     requires { Narrow (table_as table.now) }
     ensures cell { result.0 ≡ (row_of (table_as table.now) (name_of name)).cell }
@@ -50,12 +52,12 @@ fn operations(operator: Operator) -> (Op, Op, u16)
         Operator::Mod => (Op::Rem, Op::Lrem, 0),
         Operator::Plus => (Op::Add, Op::Ladd, 0),
         Operator::Minus => (Op::Sub, Op::Lsub, 0),
-        Operator::Equal => (Op::Cmp, Op::Lcmp, Relation::Equal as u16),
-        Operator::Unequal => (Op::Cmp, Op::Lcmp, Relation::Unequal as u16),
-        Operator::Less => (Op::Cmp, Op::Lcmp, Relation::Less as u16),
-        Operator::AtMost => (Op::Cmp, Op::Lcmp, Relation::AtMost as u16),
-        Operator::Greater => (Op::Cmp, Op::Lcmp, Relation::Greater as u16),
-        Operator::AtLeast => (Op::Cmp, Op::Lcmp, Relation::AtLeast as u16),
+        Operator::Equal => (Op::Cmp, Op::Lcmp, u16::from(Relation::Equal)),
+        Operator::Unequal => (Op::Cmp, Op::Lcmp, u16::from(Relation::Unequal)),
+        Operator::Less => (Op::Cmp, Op::Lcmp, u16::from(Relation::Less)),
+        Operator::AtMost => (Op::Cmp, Op::Lcmp, u16::from(Relation::AtMost)),
+        Operator::Greater => (Op::Cmp, Op::Lcmp, u16::from(Relation::Greater)),
+        Operator::AtLeast => (Op::Cmp, Op::Lcmp, u16::from(Relation::AtLeast)),
         Operator::Land => (Op::And, Op::And, 0),
         Operator::Xor => (Op::Xor, Op::Xor, 0),
         Operator::Lor => (Op::Or, Op::Or, 0),
@@ -124,7 +126,7 @@ fn computing(kind: Kind, node: Node) -> Option<Emission>
         Node::Lnot(_) => Some(plain(Op::Not, 0, 0)),
         Node::Field(a, b, _) => Some(plain(Op::Fld, a, b)),
         Node::Deposit(a, b, _) => Some(plain(Op::Dep, a, b)),
-        Node::Shift(shift, count, _) => Some(plain(Op::Shf, shift as u16, count)),
+        Node::Shift(shift, count, _) => Some(plain(Op::Shf, u16::from(shift), count)),
         Node::One => Some(plain(Op::Lit, 1, 0)),
         Node::Drop => Some(plain(Op::Drop, 2, 0)),
         _ => None,
@@ -155,7 +157,7 @@ fn marking(arms: u16, node: Node) -> Emission
     }
 }
 
-// What an entry becomes: `kind` is the type of the left operand of two, `arms` the number of arms of the next CASE.
+// What an entry becomes, in three parts as in the definition: `kind` is the type of the left operand of two, `arms` the number of arms of the next CASE.
 pub(crate) fn emission_of(table: &NameTable, kind: Kind, arms: u16, node: Node) -> Emission
     requires { Narrow (table_as table.now) }
     ensures { items_of result ≡ emits (table_as table.now) kind arms (entry_of node) }

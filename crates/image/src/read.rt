@@ -36,7 +36,8 @@ impl<'a> Cursor<'a> {
     }
 }
 
-// Reads `count` instructions and the end, and keeps them in the table.
+// Reads `count` instructions and the end, and keeps them in the table. Beside `walk`, which keeps nothing: a function over
+// both would have to say what its closure keeps.
 fn fill(cursor: &mut Cursor<'_>, count: u16, table: &mut [Instr]) -> Result<(), ImageFault>
     requires { count ≤ length table.old }
     ensures { Filled (entries_at cursor.old.end count [] (rest_of cursor.old)) count table.old table.new result }
