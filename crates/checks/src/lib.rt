@@ -9,6 +9,7 @@ pub mod laws;
 mod names;
 mod rule;
 mod sizes;
+mod stages;
 pub mod table;
 mod types;
 mod view;
