@@ -7,6 +7,7 @@ pub mod entry;
 pub mod fault;
 pub mod laws;
 mod names;
+mod operands;
 mod rule;
 mod sizes;
 mod stages;

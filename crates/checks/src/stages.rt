@@ -10,21 +10,20 @@ ghost use Rattle.checks.specs.Works.{verdict};
 use crate::arms::Arms;
 use crate::fault::CheckFault;
 use crate::names::names;
+use crate::operands::Operands;
 use crate::sizes::sizes;
 use crate::table::NameTable;
 use crate::types::types;
-use crate::workspace::{ENTRIES, ITEMS};
+use crate::workspace::ITEMS;
 use std::alloc::{AllocError, Global};
 use syntax::node::Node;
-use text::token::Kind;
 use typed::item::Item;
 use words::reserved::Reserved;
 
 #[derive(Drop)]
 pub(crate) struct Stages {
     pub(crate) table: NameTable,
-    // the types of the operands that wait
-    pub(crate) kinds: Reserved<Kind, ENTRIES>,
+    pub(crate) operands: Operands,
     pub(crate) arms: Arms,
     // the typed list
     pub(crate) items: Reserved<Item, ITEMS>,
@@ -36,7 +35,7 @@ impl Stages {
     {
         Ok(Stages {
             table: NameTable::new(),
-            kinds: Reserved::new(heap)?,
+            operands: Operands::new(heap)?,
             arms: Arms::new(heap)?,
             items: Reserved::new(heap)?,
         })
@@ -51,7 +50,7 @@ impl Stages {
         ensures items { self.new.items ≡ self.old.items }
     {
         names(nodes, &mut self.table)?;
-        types(nodes, &self.table, &mut self.kinds)?;
+        types(nodes, &self.table, &mut self.operands)?;
         sizes(nodes, &self.table)
     }
 }

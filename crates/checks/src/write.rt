@@ -8,7 +8,6 @@ ghost use Rattle.checks.specs.Emissions.{items_of, Narrow};
 use crate::emission::{Emission, emission_of};
 use crate::rule::rule_of;
 use crate::stages::Stages;
-use crate::types::{follow, operand};
 use crate::workspace::ITEMS;
 use syntax::node::Node;
 use typed::item::Item;
@@ -38,12 +37,12 @@ impl Stages {
         ensures items { self.new.items ≡ writes (table_as self.old.table) (entries_of nodes.now) [] self.old.arms.closed }
         ensures table { self.new.table ≡ self.old.table }
     {
-        self.kinds.clear();
+        self.operands.clear();
         self.items.clear();
         for n in nodes {
-            let emission = emission_of(&self.table, operand(&self.kinds, 1), self.arms.next(), *n);
+            let emission = emission_of(&self.table, self.operands.operand(1), self.arms.next(), *n);
             append(&mut self.items, emission);
-            follow(&mut self.kinds, rule_of(&self.table, *n));
+            self.operands.follow(rule_of(&self.table, *n));
             self.arms.spend(*n);
         }
     }
