@@ -32,8 +32,8 @@ impl Named for NameEntry {
     }
 }
 
-// Stands for a name that is not declared. A table that is not full holds it where no name was entered yet. By hand: no
-// type and no sort is a default by itself.
+// Stands for a name that is not declared. A table that is not full holds it where no name was entered yet. By hand: a
+// derived one would ask a default of a name, of a type and of a sort.
 impl Default for NameEntry {
     ghost use Rattle.std.specs.Prelude.{◌≡◌};
     ghost use Rattle.checks.specs.Tables.{nothing};

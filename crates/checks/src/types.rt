@@ -21,6 +21,7 @@ pub(crate) fn types(
     ensures { fault_in result ≡ least (type_faults (table_as table.now) (entries_of nodes.now) []) }
 {
     operands.clear();
+    // No function over the judging: it would have to say what each judge changes, so it is no plainer.
     let mut best = None;
     for n in nodes {
         let rule = rule_of(table, *n);

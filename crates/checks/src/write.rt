@@ -30,7 +30,8 @@ fn append(out: &mut Reserved<Item, ITEMS>, emission: Emission)
 }
 
 impl Stages {
-    // The typed list of nodes that passed every stage and whose arms are counted.
+    // The typed list of nodes that passed every stage and whose arms are counted. A table is narrow only once the stage
+    // of sizes has passed, so it is no fact of its type.
     pub(crate) fn write(&mut self, nodes: &[Node])
         requires narrow { Narrow (table_as self.old.table) }
         requires room { length nodes.now ≤ 65536 }
