@@ -73,7 +73,7 @@ impl Operands {
 
     // What an entry of this rule makes of them.
     pub(crate) fn follow(&mut self, rule: Rule)
-        requires { length self.old < 65536 }
+        requires { length self.old < ENTRIES }
         ensures tops { self.new ≡ after rule self.old }
         ensures len { length self.new ≤ length self.old + 1 }
     {

@@ -14,7 +14,7 @@ use crate::operands::Operands;
 use crate::sizes::sizes;
 use crate::table::NameTable;
 use crate::types::types;
-use crate::workspace::ITEMS;
+use crate::workspace::{ENTRIES, ITEMS};
 use std::alloc::{AllocError, Global};
 use syntax::node::Node;
 use typed::item::Item;
@@ -43,7 +43,7 @@ impl Stages {
 
     // The three stages, each over the whole list before the next.
     pub(crate) fn judge(&mut self, nodes: &[Node]) -> Result<(), CheckFault>
-        requires { length nodes.now ≤ 65536 }
+        requires { length nodes.now ≤ ENTRIES }
         ensures fault { fault_in result ≡ verdict (entries_of nodes.now) }
         ensures table { table_as self.new.table ≡ table_from empty (entries_of nodes.now) }
         ensures arms { self.new.arms ≡ self.old.arms }

@@ -9,6 +9,7 @@ use crate::fault::{CheckFault, answer, soonest};
 use crate::operands::Operands;
 use crate::rule::rule_of;
 use crate::table::NameTable;
+use crate::workspace::ENTRIES;
 use syntax::node::Node;
 
 // The stage itself: every entry is judged, and the fault that decides is answered.
@@ -17,7 +18,7 @@ pub(crate) fn types(
     table: &NameTable,
     operands: &mut Operands,
 ) -> Result<(), CheckFault>
-    requires { length nodes.now ≤ 65536 }
+    requires { length nodes.now ≤ ENTRIES }
     ensures { fault_in result ≡ least (type_faults (table_as table.now) (entries_of nodes.now) []) }
 {
     operands.clear();

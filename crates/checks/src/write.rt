@@ -8,14 +8,14 @@ ghost use Rattle.checks.specs.Emissions.{items_of, Narrow};
 use crate::emission::{Emission, emission_of};
 use crate::rule::rule_of;
 use crate::stages::Stages;
-use crate::workspace::ITEMS;
+use crate::workspace::{ENTRIES, ITEMS};
 use syntax::node::Node;
 use typed::item::Item;
 use words::reserved::Reserved;
 
 // Writes what an entry became.
 fn append(out: &mut Reserved<Item, ITEMS>, emission: Emission)
-    requires { length out.old + 2 ≤ 131072 }
+    requires { length out.old + 2 ≤ ITEMS }
     ensures items { out.new ≡ out.old ++ items_of emission }
     ensures len { length out.new ≤ length out.old + 2 }
 {
@@ -34,7 +34,7 @@ impl Stages {
     // of sizes has passed, so it is no fact of its type.
     pub(crate) fn write(&mut self, nodes: &[Node])
         requires narrow { Narrow (table_as self.old.table) }
-        requires room { length nodes.now ≤ 65536 }
+        requires room { length nodes.now ≤ ENTRIES }
         ensures items { self.new.items ≡ writes (table_as self.old.table) (entries_of nodes.now) [] self.old.arms.closed }
         ensures table { self.new.table ≡ self.old.table }
     {
