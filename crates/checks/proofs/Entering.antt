@@ -1,5 +1,5 @@
 -- A name more in the table. Assumes nothing.
-use Rattle.std.proofs.Common.{◌≡◌, ℕ, ◌<◌, ◌≤◌, arith, Bool, true, false, eqb, List, [], ◌∷◌, ◌++◌, map, length, get_or, take, set, Some, None, Ok, Err, Option, unwrap_or, sym, refl, ap, ◌∙◌, ⊎_elim}
+use Rattle.std.proofs.Common.{◌≡◌, ℕ, ◌<◌, ◌≤◌, arith, Bool, true, false, eqb, List, [], ◌∷◌, ◌++◌, map, length, get_or, take, set, Some, None, Ok, Err, Option, sym, refl, ap, ◌∙◌, ⊎_elim}
 use Rattle.std.proofs.lemmas.List.{drop_all, take_all, append-nil, length-set}
 use Rattle.std.proofs.lemmas.Bool.{lt-ltb, le-ltb, eq-eqb, cases_lt}
 use Rattle.text.specs.declared.token.Kind.{Kind}
@@ -9,7 +9,7 @@ use Rattle.checks.specs.contracts.entry.Sort.{the_type}
 use denote.Enum.Bare.{sameb}
 use Rattle.checks.specs.declared.entry.NameEntry.{NameEntry}
 use Rattle.std.specs.List.{refill}
-use Rattle.std.specs.Option.{option_map, is_some, ok_or}
+use Rattle.std.specs.Option.{UnwrapsOrElse, option_map, is_some, ok_or}
 use Rattle.checks.specs.declared.fault.CheckFault.{CheckFault}
 use Rattle.checks.specs.Faults.{at, unless, refusal_of}
 use Rattle.checks.specs.Tables.{Row, Table, look, nothing, found, is_known, extended, declare}
@@ -58,9 +58,9 @@ pub known_some : (o : Option NameEntry) (x : Option Row) → option_map row_as o
 known_some None x e = ap is_known (sym e)
 known_some (Some r) x e = ap is_known (sym e)
 
-pub row_found : (o : Option NameEntry) (d : NameEntry) (x : Option Row) → row_as d ≡ nothing → option_map row_as o ≡ x → row_as (unwrap_or o d) ≡ found x
+pub row_found : (o : Option NameEntry) (d : NameEntry) (x : Option Row) → UnwrapsOrElse o (λ e. row_as e ≡ nothing) d → option_map row_as o ≡ x → row_as d ≡ found x
 row_found None d x z e = z ∙ ap found e
-row_found (Some r) d x z e = ap found e
+row_found (Some r) d x z e = ap row_as z ∙ ap found e
 
 pub same_sort : (a b : Sort) → sameb the_type a b ≡ is_sort b a
 same_sort sort.Simple sort.Simple = refl

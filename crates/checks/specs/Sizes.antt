@@ -1,16 +1,13 @@
 -- The stage of sizes: fields, shifts and low bounds in their range, and at most 4,096 cells.
-use Rattle.std.specs.Prelude.{ℕ, ◌+◌, Bool, ◌&&◌, List, [], ◌∷◌, Some, None, Option, ◌==◌, nat_le}
+use Rattle.std.specs.Prelude.{ℕ, ◌+◌, List, [], ◌∷◌, Some, None, Option, ◌==◌, nat_le}
 use Rattle.words.specs.declared.refusal.Refusal.{Refusal}
+use Rattle.arith.specs.Fields.{is_field}
 use Rattle.syntax.specs.Entries.{Entry}
 use Rattle.syntax.specs.Entries as entry
 use Rattle.trees.specs.Trees.{Expr, number, load, index, binary, negate, lnot, convert, field, shift, Clause, test, and, Cond, only, or, Step, absent, by, Stmt, assign, assign_at, deposit, deposit_at, when, either, choose, while, repeat, count, Body, end, then, Arms, last, arm, Decl, simple, array, Program}
 use Rattle.checks.specs.Faults.{also, unless}
 use Rattle.checks.specs.Tables.{Table, row_of}
 use Rattle.checks.specs.Names.{Declaring, decl_of, program_table}
-
--- b bits from bit a of a word
-abbrev pub is_field : ℕ → ℕ → Bool
-is_field a b = nat_le 1 b && (nat_le b 15 && nat_le (a + b) 16)
 
 abbrev pub bits_fault : (a b p : ℕ) → Option Refusal
 bits_fault a b p = unless (is_field a b) 12 p

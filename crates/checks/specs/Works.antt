@@ -52,7 +52,7 @@ entries_from (Err f) = []
 
 -- what a workspace holds
 abbrev pub holds : Workspace → Checked
-holds w = record { items = w.items; table = table_as w.table }
+holds w = record { items = w.stages.items; table = table_as w.stages.table }
 
 abbrev pub nodes_of : Workspace → List Entry
 nodes_of w = list_of w.syntax

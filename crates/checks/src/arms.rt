@@ -45,8 +45,8 @@ impl Arms {
     // One entry: `Esac` begins to count, `Arm` counts one more, `Case` is done.
     fn tally(&mut self, node: Node)
         requires few { first self.old.opened < 65535 }
-        requires opened { length self.old.opened < 65536 }
-        requires closed { length self.old.closed < 65536 }
+        requires opened { length self.old.opened < ENTRIES }
+        requires closed { length self.old.closed < ENTRIES }
         ensures counts { self.new ≡ tallied (entry_of node) self.old }
         ensures opened { length self.new.opened ≤ length self.old.opened + 1 }
         ensures closed { length self.new.closed ≤ length self.old.closed + 1 }

@@ -32,18 +32,8 @@ impl Named for NameEntry {
     }
 }
 
-impl NameEntry {
-    // Stands for a name that is not declared.
-    pub(crate) const NOTHING: NameEntry = NameEntry {
-        name: Name::EMPTY,
-        kind: Kind::Integer,
-        sort: Sort::Simple,
-        cell: 0,
-        cells: 0,
-    };
-}
-
-// A table that is not full holds it where no name was entered yet.
+// Stands for a name that is not declared. A table that is not full holds it where no name was entered yet. By hand: a
+// derived one would ask a default of a name, of a type and of a sort.
 impl Default for NameEntry {
     ghost use Rattle.std.specs.Prelude.{◌≡◌};
     ghost use Rattle.checks.specs.Tables.{nothing};
@@ -52,7 +42,13 @@ impl Default for NameEntry {
     ghost is_default = { λ e. row_as e ≡ nothing };
 
     fn default() -> NameEntry {
-        NameEntry::NOTHING
+        NameEntry {
+            name: Name::EMPTY,
+            kind: Kind::Integer,
+            sort: Sort::Simple,
+            cell: 0,
+            cells: 0,
+        }
     }
 }
 

@@ -29,6 +29,7 @@ pub enum CheckFault {
     TooManyCells(usize),
 }
 
+// By hand: a derived one says nothing of the error that `?` makes.
 impl From<GrammarFault> for CheckFault {
     ghost from_gives = { λ e r. r ≡ Grammar e };
 
@@ -54,8 +55,8 @@ impl From<CheckFault> for Refusal {
     }
 }
 
-// Where every entry is judged, a fault is a value that is looked for, and so an Option: of the faults of a stage the
-// soonest one decides.
+// Judging one entry looks for a fault, so the fault is the value, in an Option. Declaring and using a name can fail, so
+// they answer a Result. Of the faults of a stage the soonest one decides.
 
 // The fault, unless the test holds.
 pub(crate) fn unless(good: bool, fault: CheckFault) -> Option<CheckFault>

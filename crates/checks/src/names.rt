@@ -29,6 +29,7 @@ pub(crate) fn names(nodes: &[Node], table: &mut NameTable) -> Result<(), CheckFa
     ensures table { table_as table.new ≡ table_from empty (entries_of nodes.now) }
 {
     table.clear();
+    // No function over the judging: it would have to say what each judge changes, so it is no plainer.
     let mut best = None;
     for n in nodes {
         best = soonest(best, name_fault(table, *n));

@@ -23,6 +23,7 @@ fn cells_fault(table: &NameTable, node: Node) -> Option<CheckFault>
 pub(crate) fn sizes(nodes: &[Node], table: &NameTable) -> Result<(), CheckFault>
     ensures { fault_in result ≡ least (size_faults (table_as table.now) (entries_of nodes.now)) }
 {
+    // No function over the judging: it would have to say what each judge changes, so it is no plainer.
     let mut best = None;
     for n in nodes {
         let first = soonest(best, cells_fault(table, *n));

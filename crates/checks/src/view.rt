@@ -4,11 +4,12 @@ ghost use Rattle.std.specs.Option.{option_map};
 ghost use Rattle.syntax.specs.Entries.{entry_of};
 ghost use Rattle.checks.specs.Names.{decl_of, use_of};
 ghost use Rattle.checks.specs.Views.{declaring_of, used_by};
-ghost use Rattle.checks.specs.Sizes.{is_field, range_fault};
+ghost use Rattle.checks.specs.Sizes.{range_fault};
 ghost use Rattle.checks.specs.Faults.{refusal_of};
 
 use crate::entry::Sort;
 use crate::fault::{CheckFault, unless};
+use arith::field::Field;
 use syntax::node::Node;
 use text::name::Name;
 use text::token::Kind;
@@ -77,19 +78,13 @@ pub(crate) fn used_by(node: Node) -> Option<Mention>
     }
 }
 
-fn is_field(a: u16, b: u16) -> bool
-    ensures { result ≡ is_field a b }
-{
-    b >= 1 && b <= 15 && a as u32 + b as u32 <= 16
-}
-
 // Whether a field, a shift or a low bound is out of its range.
 pub(crate) fn range_fault(node: Node) -> Option<CheckFault>
     ensures { option_map refusal_of result ≡ range_fault (entry_of node) }
 {
     match node {
-        Node::Field(a, b, place) | Node::Deposit(a, b, place) => unless(
-            is_field(a, b),
+        Node::Field(from, count, place) | Node::Deposit(from, count, place) => unless(
+            Field::new(from, count).is_some(),
             CheckFault::OutOfRange(place),
         ),
         Node::Shift(_, count, place) => unless(count <= 15, CheckFault::OutOfRange(place)),

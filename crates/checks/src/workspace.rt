@@ -1,9 +1,5 @@
 // The memory that a source is checked in: made once, used for any number of sources. It borrows nothing from them.
-use crate::arms::Arms;
-use crate::table::NameTable;
-use text::token::Kind;
-use typed::item::Item;
-use words::reserved::Reserved;
+use crate::stages::Stages;
 
 mod calls;
 
@@ -12,12 +8,9 @@ pub(crate) const ENTRIES: usize = 65536;
 
 pub(crate) const ITEMS: usize = 131072;
 
+// The syntax list, and beside it what the stages that read it fill.
 #[derive(Drop)]
 pub struct Workspace {
     syntax: syntax::workspace::Workspace,
-    table: NameTable,
-    // the types of the operands that wait
-    kinds: Reserved<Kind, ENTRIES>,
-    arms: Arms,
-    items: Reserved<Item, ITEMS>,
+    stages: Stages,
 }

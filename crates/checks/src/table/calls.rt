@@ -60,11 +60,11 @@ impl NameTable {
 }
 
 impl NameTable {
-    // The entry of a name; `NOTHING` if it is not declared.
+    // The entry of a name; the default if it is not declared.
     pub(crate) fn entry(&self, name: &Name) -> NameEntry
         ensures { row_as result ≡ row_of (table_as self.now) (name_of name.now) }
     {
-        self.get(name).unwrap_or(NameEntry::NOTHING)
+        self.get(name).unwrap_or_default()
     }
 
     // A name more, which takes the next cells: the entry of an array is completed in its place.

@@ -1,4 +1,4 @@
-use Rattle.std.proofs.Common.{reverse, ◌∙◌, arith}
+use Rattle.std.proofs.Common.{◌∙◌, arith}
 use Rattle.std.specs.Option.{option_map}
 use Rattle.checks.specs.Faults.{refusal_of}
 use Rattle.checks.specs.Tabled.{table_as}
@@ -7,7 +7,7 @@ use Rattle.checks.proofs.types.types.Goals as goal
 
 pub loop-n-preserved : goal.loop-n-preserved
 loop-n-preserved c = (
-  types_more c.args.nodes.now c.loop-n.n-index (option_map refusal_of c.loop-n.best) (table_as c.args.table.now) (reverse c.loop-n.stack) _ c.loop-n.invariant.0 _ _ _ _ _
+  types_more c.args.nodes.now c.loop-n.n-index (option_map refusal_of c.loop-n.best) (table_as c.args.table.now) c.loop-n.operands _ c.loop-n.invariant.0 _ _ _ _ _
       c.loop-n-test.true c.rule_of-rule.ensures c.clash.ensures c.soonest-best.ensures c.follow.ensures.tops,
   omega (arith, c.follow.ensures.len, c.loop-n.invariant.1),
 )
@@ -15,4 +15,4 @@ loop-n-preserved c = (
 pub returns : goal.returns
 returns c =
     c.answer.ensures
-    ∙ types_all c.args.nodes.now c.loop-n.n-index (option_map refusal_of c.loop-n.best) (table_as c.args.table.now) (reverse c.loop-n.stack) _ c.loop-n.invariant.0 c.loop-n-test.false
+    ∙ types_all c.args.nodes.now c.loop-n.n-index (option_map refusal_of c.loop-n.best) (table_as c.args.table.now) c.loop-n.operands _ c.loop-n.invariant.0 c.loop-n-test.false

@@ -1,4 +1,4 @@
-use Rattle.std.proofs.Common.{◌≡◌, ◌≤◌, [], length, reverse, drop}
+use Rattle.std.proofs.Common.{◌≡◌, ◌≤◌, [], length, drop}
 use Rattle.std.specs.Option.{option_map}
 use Rattle.syntax.specs.Entries.{entries}
 use Rattle.checks.specs.Faults.{refusal_of, least_from, least}
@@ -8,5 +8,5 @@ use Rattle.checks.proofs.types.types.Given as goal
 
 abbrev pub invariant-loop-n : goal.invariant-loop-n
 invariant-loop-n l =
-    (least_from (option_map refusal_of l.best) (type_faults (table_as l.table) (entries (drop l.n-index l.nodes)) (reverse l.stack)) ≡ least (type_faults (table_as l.table) (entries l.nodes) []))
-    × (length l.stack ≤ l.n-index)
+    (least_from (option_map refusal_of l.best) (type_faults (table_as l.table) (entries (drop l.n-index l.nodes)) l.operands) ≡ least (type_faults (table_as l.table) (entries l.nodes) []))
+    × (length l.operands ≤ l.n-index)
