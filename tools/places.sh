@@ -2,7 +2,7 @@
 # Lists, for each point of the design pass, the lines of src/ that could be places of it: `sh tools/places.sh [POINT]`.
 # It finds candidates by their spelling; docs/DESIGN-PASS.md says which of them are places.
 cd "$(dirname "$0")/.." || exit 1
-files=$(find crates -path '*/src/*.rt' | sort)
+files=$(find crates -name out -prune -o -path '*/src/*.rt' -print | sort)
 point() {
     case "$1" in
         # own enums of few cases; answers that are a bool beside something; faults in an Option; numbers for kinds
