@@ -32,7 +32,9 @@ impl Operands {
     pub(crate) fn new(heap: Global) -> Result<Operands, AllocError>
         ensures { IfOk result (λ s. s ≡ []) }
     {
-        Ok(Operands { kinds: Reserved::new(heap)? })
+        Ok(Operands {
+            kinds: Reserved::new(heap)?,
+        })
     }
 
     pub(crate) fn clear(&mut self)
