@@ -54,6 +54,7 @@ pub fn mul(y: u16, x: u16) -> Result<u16, Stop>
     fit(value(y) * value(x))
 }
 
+// The test stands in this and the next where the division needs it: their operands are INTEGERs by then.
 pub fn div(y: u16, x: u16) -> Result<u16, Stop>
     ensures { result ≡ quotient y x }
 {

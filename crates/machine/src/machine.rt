@@ -9,7 +9,8 @@ mod steps;
 // The steps of a machine at most.
 pub const LIMIT: u64 = 4000000000;
 
-// Its code, the depth of its stack, the words lent for that, its store, and the registers.
+// Its code, the depth of its stack, the words lent for that, its store, and the registers. How many words are stacked is a
+// register, which every report tells, and no length of a list beside them.
 #[derive(Drop)]
 pub struct Machine<'a, 'b, 'c, S> {
     pub code: &'a [Instr],

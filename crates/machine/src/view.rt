@@ -60,7 +60,8 @@ impl<S: Store> View<'_, S> {
         Ok(self.store.read(c)?)
     }
 
-    // The move that it makes, or the ending.
+    // The move that it makes, or the ending. No closures: with `?` an operation's call is its row, and a table of functions
+    // would be no plainer.
     pub fn work(&self) -> Result<Move, Ending>
         ensures { result ≡ act self.now.op self.now.a self.now.b self.now.place self.now.top self.now.below (S.Store.words self.now.store.now) }
     {

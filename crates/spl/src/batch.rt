@@ -25,6 +25,7 @@ fn refused(out: &mut String, fault: impl Into<Refusal>) -> Result<(), Problem> {
     Ok(())
 }
 
+// These two print forms of the protocol, which no type of its own has.
 fn put_hex(out: &mut String, bytes: &[u8]) -> Result<(), Problem> {
     for b in bytes {
         write!(out, "{b:02x}")?;

@@ -13,6 +13,7 @@ fn place_of(t: &Token<'_>) -> usize {
     }
 }
 
+// The bytes of a token, all of them letters, digits and signs.
 fn put_text(out: &mut String, bytes: &[u8]) -> Result<(), Problem> {
     for b in bytes {
         out.push(*b as char)?;

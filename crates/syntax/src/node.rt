@@ -10,6 +10,7 @@ pub(crate) const ROOM: usize = 65536;
 // The list as it is written.
 pub(crate) type Nodes = Reserved<Node, ROOM>;
 
+// Flat: with the relations of `arith` as one case, every definition that tells operators apart would have a case more.
 #[derive(Clone, Copy, PartialEq, Eq, Debug)]
 pub enum Operator {
     Times,

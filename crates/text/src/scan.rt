@@ -33,7 +33,7 @@ fn digits_len(s: &[u8], kind: Kind) -> usize
     s.iter().take_while(|b| kind.has_digit(**b)).count()
 }
 
-// The value of the digits, if the type has it.
+// The value of the digits, if the type has it. A loop: its ends by `?` read plainer than in a fold.
 #[tactic(auto, using(crate::proofs::Fronts::value_more, crate::proofs::Fronts::value_over, crate::proofs::Fronts::value_whole, crate::proofs::Fronts::within_some))]
 fn value(digits: &[u8], kind: Kind) -> Option<u16>
     ensures { result ≡ within_of (most_of kind) (value_of (base_of kind) 0 digits.now) }

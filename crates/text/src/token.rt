@@ -61,6 +61,7 @@ impl Kind {
     }
 }
 
+// By hand, as that of `Symbol`: the derive says nothing of the text.
 impl fmt::Display for Kind {
     ghost output = { λ k. Some (kind_text k) };
 

@@ -13,7 +13,7 @@ use crate::reader::Reader;
 use crate::reader::tokens::put;
 use text::token::Symbol;
 
-// The write that ends an assignment.
+// The write that ends an assignment. The flag is the definition's: its goals carry it.
 fn stored(subscript: bool, n: PlacedName, becomes: usize) -> Node
     ensures { entry_of result ≡ stored_as subscript (name_of n.name) n.place becomes }
 {

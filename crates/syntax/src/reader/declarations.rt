@@ -40,7 +40,8 @@ impl Reader<'_, '_> {
         self.listed(false, kind)
     }
 
-    // Names, or items of an array declaration, with commas between them, and `;`.
+    // Names, or items of an array declaration, with commas between them, and `;`. The flag is the definition's: its goals
+    // carry it.
     fn listed(&mut self, array: bool, kind: Kind) -> Result<(), GrammarFault>
         ensures { Done 0 0 (declared_as array kind ∷ comma array kind ∷ []) self.old self.new result }
     {

@@ -6,7 +6,8 @@ ghost use Rattle.words.specs.Stores.{pair, pairs_of};
 
 use super::{MOST, Store, StoreFault, within};
 
-// An odd last byte, and those past the first 65,535 words, are not used.
+// An odd last byte, and those past the first 65,535 words, are not used. Beside `Words`: what a cell is made of turns up in
+// every member, with a lemma for each, so that one store over a width would be no shorter.
 #[derive(Drop)]
 pub struct Bytes<'a> {
     pub cells: &'a mut [u8],
