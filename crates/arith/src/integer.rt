@@ -54,7 +54,7 @@ pub fn mul(y: u16, x: u16) -> Result<u16, Stop>
     fit(value(y) * value(x))
 }
 
-// The test stands in this and the next where the division needs it: their operands are INTEGERs by then.
+// Not by `checked_div` in this and `checked_rem` in the next: they would stand inside `fit(..)`, and be no plainer.
 pub fn div(y: u16, x: u16) -> Result<u16, Stop>
     ensures { result ≡ quotient y x }
 {

@@ -52,7 +52,8 @@ pub struct Shift {
 }
 
 impl Shift {
-    // The shift whose kind has the number, which is at most 4. Its callers bring the two words of an instruction.
+    // The shift whose kind has the number, which is at most 4. Its callers bring the two words of an instruction:
+    // with a `Kind` they would first have to make one, which is no plainer.
     pub fn new(number: u16, count: u16) -> Option<Shift>
         ensures { MatchOption result (is_shift number count ≡ false) (λ s. (is_shift number count ≡ true) × (s.kind ≡ kind_of number) × (s.count ≡ count)) }
     {

@@ -12,7 +12,7 @@ use crate::table::NameTable;
 use crate::view::{declared_by, used_by};
 use syntax::node::Node;
 
-// What an entry declares is entered, and what it uses is judged.
+// What an entry declares is entered, and what it uses is judged. An Option: it looks for a fault, which is the value.
 fn name_fault(table: &mut NameTable, node: Node) -> Option<CheckFault>
     ensures fault { option_map refusal_of result ≡ name_fault (table_as table.old) (entry_of node) }
     ensures table { table_as table.new ≡ entered (table_as table.old) (entry_of node) }

@@ -50,7 +50,7 @@ impl Operands {
         self.kinds.peek(k).unwrap_or(Kind::Integer)
     }
 
-    // Whether they break the rule.
+    // Whether they break the rule. An Option: it looks for a fault, which is the value.
     pub(crate) fn clash(&self, rule: Rule) -> Option<CheckFault>
         ensures { option_map refusal_of result ≡ clash_of rule self.now }
     {

@@ -12,7 +12,7 @@ use crate::table::NameTable;
 use crate::view::{declared_by, range_fault};
 use syntax::node::Node;
 
-// Whether the cells of the name that an entry declares go past 4,096.
+// Whether the cells of the name that an entry declares go past 4,096. An Option: it looks for a fault, which is the value.
 fn cells_fault(table: &NameTable, node: Node) -> Option<CheckFault>
     ensures { option_map refusal_of result ≡ cells_fault (table_as table.now) (decl_of (entry_of node)) }
 {
@@ -23,7 +23,8 @@ fn cells_fault(table: &NameTable, node: Node) -> Option<CheckFault>
 pub(crate) fn sizes(nodes: &[Node], table: &NameTable) -> Result<(), CheckFault>
     ensures { fault_in result ≡ least (size_faults (table_as table.now) (entries_of nodes.now)) }
 {
-    // No function over the judging: it would have to say what each judge changes, so it is no plainer.
+    // No function over the judging: the judges of the other two stages change what they judge with, so that it would serve
+    // this one alone and be no plainer.
     let mut best = None;
     for n in nodes {
         let first = soonest(best, cells_fault(table, *n));

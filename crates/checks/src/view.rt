@@ -78,7 +78,8 @@ pub(crate) fn used_by(node: Node) -> Option<Mention>
     }
 }
 
-// Whether a field, a shift or a low bound is out of its range.
+// Whether a field, a shift or a low bound is out of its range. An Option: it looks for a fault, which is the value. The
+// count of a shift is judged alone: an entry has its kind, and no number of one.
 pub(crate) fn range_fault(node: Node) -> Option<CheckFault>
     ensures { option_map refusal_of result ≡ range_fault (entry_of node) }
 {

@@ -40,7 +40,8 @@ impl From<Ending> for u8 {
     }
 }
 
-// By hand, as those below: a derived one says nothing of the error that `?` makes.
+// By hand: a derived one says nothing of the error that `?` makes; and the cases of those below hold no error, so that none
+// can be derived.
 impl From<Stop> for Ending {
     ghost from_gives = { λ e r. r ≡ Stopped e };
 

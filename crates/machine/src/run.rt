@@ -8,8 +8,8 @@ use words::instr::Instr;
 use words::store::Store;
 
 // Makes `steps` steps from the registers `vm`, fewer only if the run ends, and answers the registers after them. There is
-// no answer, and nothing changes, where `step` would have none, or where the steps would pass 4,000,000,000 in all. The
-// parameters are those of a public call and stay as its callers have them; a `Machine` is made of them.
+// no answer, and nothing changes, where `step` would have none, or where the steps would pass 4,000,000,000 in all. No
+// struct for the parameters, nor in `step`: it would be a `Machine` without its facts, which this call has to find out first.
 pub fn run<S: Store>(
     code: &[Instr],
     depth: u16,

@@ -13,7 +13,7 @@ fn place_of(t: &Token<'_>) -> usize {
     }
 }
 
-// The bytes of a token, all of them letters, digits and signs.
+// The bytes of a token, all of them letters, digits and signs: as text they would have to be checked first.
 fn put_text(out: &mut String, bytes: &[u8]) -> Result<(), Problem> {
     for b in bytes {
         out.push(*b as char)?;
@@ -21,7 +21,8 @@ fn put_text(out: &mut String, bytes: &[u8]) -> Result<(), Problem> {
     Ok(())
 }
 
-// A token as the batch protocol has it: place, kind and text.
+// A token as the batch protocol has it: place, kind and text. By hand: a form of the protocol, which the type of tokens does
+// not own.
 pub fn put_token(out: &mut String, t: &Token<'_>) -> Result<(), Problem> {
     match t {
         Token::Word(w, place) => {

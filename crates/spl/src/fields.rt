@@ -13,6 +13,7 @@ pub enum Problem {
     NotRequest(&'static str),
 }
 
+// By hand, as those below: the case holds no error, so that none can be derived.
 impl From<AllocError> for Problem {
     fn from(_e: AllocError) -> Problem {
         Problem::Memory

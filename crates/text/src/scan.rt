@@ -171,7 +171,8 @@ impl<'a> Rest<'a> {
 }
 
 // The next token of `text`, which stops at the place `end`, and the text after it; none at its end.
-// The two are no struct here: this and `peek` are called as they always were, by readers that hold both in their own.
+// The two are no struct here: a reader holds both among fields of its own and would put one together at each call, which
+// is no plainer.
 pub fn next<'a>(text: &'a [u8], end: usize) -> Result<Option<(Token<'a>, &'a [u8])>, TextFault>
     ensures exact { nexted result ≡ next_of end text.now }
     ensures steps { Steps end text.now result }

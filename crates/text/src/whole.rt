@@ -35,7 +35,8 @@ pub enum TokensFault {
     Memory,
 }
 
-// By hand, as those below: a derived one says nothing of the error that `?` makes.
+// By hand: a derived one says nothing of the error that `?` makes; and the cases of those below hold no error, so that none
+// can be derived.
 impl From<TextFault> for TokensFault {
     ghost from_gives = { λ e r. r ≡ Text e };
 

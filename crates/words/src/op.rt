@@ -99,7 +99,7 @@ impl TryFrom<u16> for Op {
 
     ghost try_from_gives = { λ number r. MatchResult r (λ op. slice_get ops number ≡ Some op) (λ _. slice_get ops number ≡ None) };
 
-    // Not by `get`: the search then knows nothing of the answer (tried).
+    // Not by `get` on the constant table: tried, and the proof did not close.
     fn try_from(number: u16) -> Result<Op, UnknownOp> {
         if number > 33 {
             return Err(UnknownOp(number));

@@ -66,7 +66,7 @@ impl<T: Drop, const N: usize> Reserved<T, N> {
 }
 
 impl<T: Copy, const N: usize> Reserved<T, N> {
-    // The k-th from the top.
+    // The k-th from the top. By an index from the end, which is what it means: over `iter().rev()` it would be no plainer.
     pub fn peek(&self, k: usize) -> Option<T>
         ensures { result ≡ slice_get (reverse self.now) k }
     {

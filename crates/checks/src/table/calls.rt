@@ -106,7 +106,7 @@ impl NameTable {
         answer(unless(entry.sort == m.sort, CheckFault::Subscript(m.place)))
     }
 
-    // Whether the cells of a declared name go past 4,096.
+    // Whether the cells of a declared name go past 4,096. An Option: it looks for a fault, which is the value.
     pub(crate) fn cells_fault(&self, d: Declaration) -> Option<CheckFault>
         ensures { option_map refusal_of result ≡ cells_at (table_as self.now) (name_of d.name) d.place }
     {

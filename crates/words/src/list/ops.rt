@@ -45,7 +45,8 @@ impl<'a, T: Copy> Bounded<'a, T> {
         Some(self.cells[self.len])
     }
 
-    // The element at `i`. Not by the slice's own `get`, of whose answer the search reads nothing.
+    // The element at `i`. The contract tells the two cases that the test tells: by the slice's own `get` it would be no
+    // plainer.
     pub fn get(&self, i: usize) -> Option<T>
         ensures { MatchOption result (length (held self.now) ≤ i) (λ x. (i < length (held self.now)) × (x ≡ slice_index_or (held self.now) i x)) }
     {
