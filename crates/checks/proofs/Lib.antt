@@ -8,5 +8,4 @@ pub mod Passes
 pub mod Laying
 pub mod Narrowing
 pub mod Judging
-pub mod Lengths
 pub mod Counting

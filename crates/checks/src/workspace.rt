@@ -2,6 +2,7 @@
 use crate::stages::Stages;
 
 mod calls;
+mod check;
 
 // One for each entry of the syntax list; two items for each.
 pub(crate) const ENTRIES: usize = 65536;

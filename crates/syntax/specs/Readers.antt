@@ -125,9 +125,9 @@ abbrev pub StatementDone : ℕ → Reader → Reader → Result (Unit {0}) Gramm
 StatementDone l r r' (Ok u) = Kept r r' × Fits 0 0 r r' × Stated l r r'
 StatementDone l r r' (Err e) = Kept r r' × Unstated l r e
 
--- the whole program
+-- the whole program: its BEGIN has no entries, so that two of those paid for are left
 abbrev pub ProgramDone : Reader → Reader → Result (Unit {0}) GrammarFault → Type 0
-ProgramDone r r' (Ok u) = Kept r r' × (runs r program ≡ Ok (entries r'.out.now))
+ProgramDone r r' (Ok u) = Kept r r' × Fits 0 2 r r' × (runs r program ≡ Ok (entries r'.out.now))
 ProgramDone r r' (Err e) = Kept r r' × (runs r program ≡ Err (refusal_of e))
 
 -- a text read as a program, after the entries o

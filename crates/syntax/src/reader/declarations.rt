@@ -1,5 +1,5 @@
 // The readers of declarations, and of a whole program.
-ghost use Rattle.std.specs.Prelude.{◌+◌, ◌*◌, ◌≤◌, [], ◌∷◌, length};
+ghost use Rattle.std.specs.Prelude.{◌+◌, ◌*◌, ◌≤◌, [], ◌∷◌, IfOk, length};
 ghost use Rattle.syntax.specs.Entries.{entries};
 ghost use Rattle.syntax.specs.Machine.{declarations as some_declarations, typed as a_typed, declared as declared_as, comma};
 ghost use Rattle.syntax.specs.Readers.{Done, ProgramDone, WholeDone};
@@ -95,7 +95,8 @@ impl Reader<'_, '_> {
 // Reads all of `source` as a program. There is room for two entries a byte.
 pub(crate) fn whole(source: &[u8], out: &mut Nodes) -> Result<(), GrammarFault>
     requires { length out.old + 2 * length source.now ≤ ROOM }
-    ensures { WholeDone source.now (entries out.old) (entries out.new) result }
+    ensures done { WholeDone source.now (entries out.old) (entries out.new) result }
+    ensures few { IfOk result (λ _. length out.new + 2 ≤ length out.old + 2 * length source.now) }
 {
     let end = source.len();
     let (ahead, rest) = scan(source, end);

@@ -1,4 +1,4 @@
-use Rattle.std.proofs.Common.{[], ◌∷◌, ◌∙◌, rules}
+use Rattle.std.proofs.Common.{[], ◌∷◌, ◌∙◌, rules, arith}
 use Rattle.std.proofs.lemmas.Result.{err_from_is_err_and}
 use Rattle.text.specs.declared.token.Symbol.TheVariants as sign
 use Rattle.syntax.specs.Machine.{stmt, block, sym, finish}
@@ -48,4 +48,11 @@ returns c =
     let d = c.in_ok-block.ensures.2 in
     let e = c.in_ok-symbol.ensures.2 in
     let h = to_end c.args.self.now c.keyword.new.self c.declarations.new.self c.block.new.self c.symbol.new.self a b d e in
-    (search rules, h ∙ search rules)
+    let k = c.in_ok-keyword.ensures.1 in
+    let l = c.in_ok-declarations.ensures.1 in
+    let m = c.in_ok-block.ensures.1 in
+    let n = c.in_ok-symbol.ensures.1 in (
+      search rules,
+      record { room = omega (arith, k.room, l.room, m.room, n.room); less = omega (arith, k.less, l.less, m.less, n.less) },
+      h ∙ search rules,
+    )

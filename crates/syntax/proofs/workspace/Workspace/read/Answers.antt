@@ -1,4 +1,4 @@
-use Rattle.std.proofs.Common.{◌≤◌, length, rules}
+use Rattle.std.proofs.Common.{◌≡◌, ℕ, ◌≤◌, length, rules, arith, ap}
 use Rattle.std.proofs.lemmas.Result.{err_from_is_err_and}
 use Rattle.syntax.proofs.Whole.{entries_none, short_source, read_text, read_whole}
 use Rattle.syntax.proofs.workspace.Workspace.read.Goals as goal
@@ -14,8 +14,14 @@ returns-in_err-check c =
     rw (p.1, p.2) (read_text c.args.source.now _ c.in_err-check.ensures, entries_none _ c.clear.ensures)
 
 pub returns-in-Ok : goal.returns-in-Ok
-returns-in-Ok c = read_whole c.args.source.now _ _ c.in_ok-check.ensures (entries_none _ c.clear.ensures) c.in-Ok.ensures
+returns-in-Ok c = read_whole c.args.source.now _ _ c.in_ok-check.ensures (entries_none _ c.clear.ensures) c.in-Ok.ensures.done
 
 pub returns-in-Err : goal.returns-in-Err
 returns-in-Err c =
-    (read_whole c.args.source.now _ _ c.in_ok-check.ensures (entries_none _ c.clear.ensures) c.in-Err.ensures, entries_none _ c.clear-in-Err.ensures)
+    (read_whole c.args.source.now _ _ c.in_ok-check.ensures (entries_none _ c.clear.ensures) c.in-Err.ensures.done, entries_none _ c.clear-in-Err.ensures)
+
+pub invariant_of-self-in-Ok : goal.invariant_of-self-in-Ok
+invariant_of-self-in-Ok c =
+    let h : length c.args.source.now ≤ 32768 = short_source c.args.source.now _ c.in_ok-check.ensures in
+    let z : ◌≡◌ {A = ℕ} (length c.clear.new.self) 0 = ap length c.clear.ensures in
+    record { few = omega (arith, c.in-Ok.ensures.few, h, z) }

