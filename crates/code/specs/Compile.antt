@@ -15,7 +15,9 @@ use Rattle.checks.specs.Names.{program_names, program_table}
 use Rattle.checks.specs.Types.{program_types}
 use Rattle.checks.specs.Sizes.{program_sizes}
 use Rattle.checks.specs.Writing.{resolve}
-use Rattle.checks.specs.Works.{Checked, checked}
+use Rattle.syntax.specs.Works.{syntaxed}
+use Rattle.checks.specs.declared.workspace.Workspace.{Workspace}
+use Rattle.checks.specs.Works.{Checked, checked, holds, nodes_of, entries_from}
 use Rattle.emit.specs.Items.{emitted}
 use Rattle.code.specs.declared.fault.CompileFault.{CompileFault}
 use Rattle.code.specs.Faults.{refusal_of}
@@ -57,8 +59,15 @@ pub record CompiledTree (source : List ℕ) (p : Program) (c : Code) : Type 0 wh
   pub depth : c.depth ≡ depth (resolve p)
   pub instrs : c.instrs ≡ program (resolve p)
 
--- the code stands at the front of the table, and behind it what was there; or the table is as it was
-abbrev pub Compiles : List ℕ → (before after : List Instr) → Result Figures CompileFault → Type 0
-Compiles source a b (Ok f) =
-    (c : Code) × (compiled source (length a) ≡ Ok c) × (f.cells ≡ c.cells) × (f.depth ≡ c.depth) × (f.count ≡ length c.instrs) × (b ≡ c.instrs ++ drop f.count a)
-Compiles source a b (Err e) = (compiled source (length a) ≡ Err (refusal_of e)) × (b ≡ a)
+-- The code stands at the front of the table, and behind it what was there, and the workspace holds the source's names and
+-- items; or the table is as it was. The syntax list is the source's in either case, if the grammar accepts it.
+abbrev pub Compiles : List ℕ → Workspace → (before after : List Instr) → Result Figures CompileFault → Type 0
+Compiles source w a b (Ok f) =
+    (checked source ≡ Ok (holds w))
+    × (compiled source (length a) ≡ Ok (code_of (holds w)))
+    × (f.cells ≡ (code_of (holds w)).cells)
+    × (f.depth ≡ (code_of (holds w)).depth)
+    × (f.count ≡ length (code_of (holds w)).instrs)
+    × (b ≡ (code_of (holds w)).instrs ++ drop f.count a)
+    × (nodes_of w ≡ entries_from (syntaxed source))
+Compiles source w a b (Err e) = (compiled source (length a) ≡ Err (refusal_of e)) × (b ≡ a) × (nodes_of w ≡ entries_from (syntaxed source))

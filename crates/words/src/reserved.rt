@@ -59,7 +59,8 @@ impl<T: Drop, const N: usize> Reserved<T, N> {
     }
 
     pub fn as_slice(&self) -> &[T]
-        ensures { result.now ≡ self.now }
+        ensures items { result.now ≡ self.now }
+        ensures few { length result.now ≤ N }
     {
         self.items.as_slice()
     }

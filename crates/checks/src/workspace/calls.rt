@@ -1,12 +1,12 @@
 // A workspace is made, used and looked into.
-ghost use Rattle.std.specs.Prelude.{◌≡◌, [], map, IfOk};
+ghost use Rattle.std.specs.Prelude.{◌≡◌, ◌≤◌, [], length, map, IfOk};
 ghost use Rattle.syntax.specs.Entries.{entries as entries_of};
 ghost use Rattle.checks.specs.Entered.{row_as};
 ghost use Rattle.checks.specs.Works.{holds, nodes_of, nothing};
 
 use crate::entry::NameEntry;
 use crate::stages::Stages;
-use crate::workspace::Workspace;
+use crate::workspace::{ITEMS, Workspace};
 use std::alloc::{AllocError, Global};
 use syntax::node::Node;
 use typed::item::Item;
@@ -24,7 +24,8 @@ impl Workspace {
 
     // The typed list of the source that was checked last; empty if it was refused.
     pub fn items(&self) -> &[Item]
-        ensures { result.now ≡ (holds self.now).items }
+        ensures list { result.now ≡ (holds self.now).items }
+        ensures few { length result.now ≤ ITEMS }
     {
         self.stages.items.as_slice()
     }
