@@ -1,6 +1,7 @@
 // `spl tokens`: a source cut into tokens.
 use crate::fields::Problem;
-use crate::source::{Spot, load, tell};
+use crate::mark::tell;
+use crate::source::{Spot, load};
 use anyhow::anyhow;
 use std::fmt::Write;
 use text::reserved::keyword;
@@ -13,8 +14,8 @@ fn place_of(t: &Token<'_>) -> usize {
     }
 }
 
-// The bytes of a token, all of them letters, digits and signs: as text they would have to be checked first.
-fn put_text(out: &mut String, bytes: &[u8]) -> Result<(), Problem> {
+// The bytes of a token or a name, all of them letters, digits and signs: as text they would have to be checked first.
+pub fn put_text(out: &mut String, bytes: &[u8]) -> Result<(), Problem> {
     for b in bytes {
         out.push(*b as char)?;
     }

@@ -5,6 +5,8 @@ mod batch;
 mod cutting;
 mod fields;
 mod listing;
+mod mark;
+mod outline;
 mod source;
 
 use anyhow::anyhow;
@@ -13,6 +15,7 @@ use std::env;
 
 const USAGE: &str = "usage: spl COMMAND [then COMMAND]...
   tokens SOURCE  print the tokens of a source, each with its place
+  parse SOURCE   print an outline of a source: its declarations and statements, each with its line
   list IMAGE     print what an image holds: its figures, then each instruction
   check TABLE    answer the requests of a table, and compare with the answers there
   batch          answer the requests on standard input, one line to each
@@ -29,6 +32,7 @@ fn command(rt: &HostRuntime, words: &[String]) -> anyhow::Result<()> {
         [] => usage(rt),
         [name] if name.as_str() == "batch" => batch::batch(rt),
         [name, path] if name.as_str() == "tokens" => cutting::tokens(rt, path.as_str()),
+        [name, path] if name.as_str() == "parse" => outline::parse(rt, path.as_str()),
         [name, path] if name.as_str() == "check" => batch::check(rt, path.as_str()),
         [name, path] if name.as_str() == "list" => listing::list(rt, path.as_str()),
         _ => {

@@ -1,9 +1,6 @@
-// Places in a source: lines, columns, and the mark under a refusal.
+// A source as its file holds it, and places in it: lines and columns.
 use anyhow::anyhow;
-use std::alloc::Global;
-use std::fmt::Display;
 use std::fs;
-use words::refusal::Refusal;
 
 // A place, its line, from 1, and where that line begins.
 #[derive(Clone, Copy)]
@@ -23,6 +20,11 @@ impl Spot {
     // From 1.
     pub fn column(self) -> usize {
         self.place.saturating_sub(self.start).saturating_add(1)
+    }
+
+    // The source from the beginning of its line.
+    pub fn rest_of(self, source: &[u8]) -> &[u8] {
+        source.get(self.start..).unwrap_or(source)
     }
 
     // Goes on to a later place, past the line feeds before it.
@@ -48,35 +50,4 @@ pub fn load(rt: &HostRuntime, path: &str) -> anyhow::Result<Vec<u8>> {
             Err(anyhow!("a file cannot be read"))
         }
     }
-}
-
-// The bytes up to a line feed as text; what cannot be shown is a question mark.
-fn shown(heap: Global, bytes: &[u8]) -> anyhow::Result<String> {
-    let mut text = String::new(heap);
-    for b in bytes.iter().take_while(|b| **b != b'\n') {
-        text.push(if b.is_ascii_graphic() || *b == b' ' {
-            *b as char
-        } else {
-            '?'
-        })?;
-    }
-    Ok(text)
-}
-
-// Why a source is refused, with its line and a mark under the place.
-pub fn tell<E: Copy + Display + Into<Refusal>>(
-    rt: &HostRuntime,
-    path: &str,
-    source: &[u8],
-    fault: E,
-) -> anyhow::Result<()> {
-    let Refusal { place, number } = fault.into();
-    let spot = Spot::TOP.onward(source, place.min(source.len()));
-    let line = spot.line;
-    let column = spot.column();
-    println!(rt; "{path}:{line}:{column}: refused with {number} at {place}: {fault}")?;
-    let text = shown(rt.alloc(), source.get(spot.start..).unwrap_or(source))?;
-    println!(rt; "{text}")?;
-    println!(rt; "{:>column$}", "^")?;
-    Err(anyhow!("the source is refused"))
 }
