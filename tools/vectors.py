@@ -11,7 +11,7 @@ Run it anywhere; paths in a table's input count from the top of the repository. 
 authority: where bench/reference.py answers otherwise, the difference is printed, the status is 1, and the expectation goes into
 the table.  What the input leaves open (instructions, the count of steps, cells not looked at) is the reference's.
 
-A line of an input is one of
+A line of an input is one of these; one that ends with a backslash goes on in the next.
 
     # TEXT, or empty     copied into the table
     source               a source follows: lines `|TEXT`, joined by a line feed, none after the last
@@ -261,6 +261,9 @@ class Maker:
         while lines:
             line = lines.pop(0)
             self.number += 1
+            while line.endswith("\\") and lines:
+                line = line[:-1] + lines.pop(0)
+                self.number += 1
             word, _, rest = line.partition(" ")
             table = TABLE
             if word == "table":
