@@ -8,3 +8,4 @@ pub mod Sound
 pub mod Exact
 pub mod Rebuild
 pub mod Wider
+pub mod Ends
