@@ -9,3 +9,4 @@ pub mod Exact
 pub mod Rebuild
 pub mod Wider
 pub mod Ends
+pub mod Steps
