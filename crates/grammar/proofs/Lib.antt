@@ -10,3 +10,4 @@ pub mod Rebuild
 pub mod Wider
 pub mod Ends
 pub mod Steps
+pub mod Prefixes

@@ -16,9 +16,10 @@ use Rattle.syntax.specs.Marks.{keyword, Tok, is_stop, is_symbol, is_keyword, lit
 use Rattle.syntax.specs.Machine.{Goal, Use, part, into, Onward, Parsed, feed, expr, inner, right, used, stored, deeper, unexpected, parenthesis, begins, leading, related, stated, stepping, limited}
 use Rattle.syntax.specs.Machine as goal
 use Rattle.grammar.specs.Grammar.{symbol, word, decimal}
-use Rattle.grammar.proofs.Marks.{both, grip}
+use Rattle.grammar.proofs.Marks.{both, grip, symbol_is, keyword_is}
 use Rattle.grammar.proofs.Runs.{deeper_in}
 use Rattle.grammar.proofs.Complete.{Settled}
+use Rattle.grammar.proofs.Sound.{opener, opening_is}
 use Rattle.grammar.proofs.Ends.{completion, Quiet, Safe}
 
 -- a goal with m levels more
@@ -72,12 +73,12 @@ abbrev pub Sound : List Goal → Type 0
 Sound k = (m : ℕ) → Safe (wider m k)
 
 -- What a token t leads to, of machines X that have m levels more: to goals; to the parenthesis of a conversion, where it
--- is a type's word; to its refusal; or to a level that only the wider machines have.
+-- is a type's word; to its refusal; or, where it is none, to a level that only the wider machines have.
 pub data Step (t : Tok) (X : ℕ → Onward → Parsed) : Type 0 where
   on : (gs : List Goal) (o : List Entry) → Sound gs → ((m : ℕ) (next : Onward) → X m next ≡ next (wider m gs) o) → Step t X
   typed : (c : Kind) (l : ℕ) (k : List Goal) (o : List Entry) → kind_of t.sort ≡ Some c → Sound k → ((m : ℕ) (next : Onward) → X m next ≡ next (goal.paren (l + m) ∷ wider m k) o) → Step t X
   refused : ((m : ℕ) (next : Onward) → X m next ≡ refuse 5 t.place) → Step t X
-  deep : (gs : List Goal) (o : List Entry) → Safe gs → ((next : Onward) → X 0 next ≡ refuse 6 t.place) → ((next : Onward) → X 1 next ≡ next gs o) → Step t X
+  deep : (gs : List Goal) (o : List Entry) → kind_of t.sort ≡ None → Safe gs → ((next : Onward) → X 0 next ≡ refuse 6 t.place) → ((next : Onward) → X 1 next ≡ next gs o) → Step t X
 
 module _ (t : Tok) where
   -- a test, and a class, of the token
@@ -93,9 +94,9 @@ module _ (t : Tok) where
   no = refused (λ m next. refl)
 
   -- a level is opened, for the goals G
-  dig : (G : ℕ → List Goal → List Goal) → ((m l : ℕ) (k : List Goal) → wider m (G l k) ≡ G (l + m) (wider m k)) → (l : ℕ) (k : List Goal) (o : List Entry) → ((m l : ℕ) → Safe (G l (wider m k))) → Step t (λ m next. deeper t (l + m) (next (G (l + m - 1) (wider m k)) o))
-  dig G w zero k o s = deep (G 0 (wider 1 k)) o (s 1 0) (λ next. refl) (λ next. refl)
-  dig G w (suc j) k o s =
+  dig : kind_of t.sort ≡ None → (G : ℕ → List Goal → List Goal) → ((m l : ℕ) (k : List Goal) → wider m (G l k) ≡ G (l + m) (wider m k)) → (l : ℕ) (k : List Goal) (o : List Entry) → ((m l : ℕ) → Safe (G l (wider m k))) → Step t (λ m next. deeper t (l + m) (next (G (l + m - 1) (wider m k)) o))
+  dig n G w zero k o s = deep (G 0 (wider 1 k)) o n (s 1 0) (λ next. refl) (λ next. refl)
+  dig n G w (suc j) k o s =
       on (G j k) o (λ m. subst Safe (sym (w m j k)) (s m (j + m)))
       (λ m next. deeper_in t (suc j + m) _ (omega arith) ∙ ap (λ x. next (G x (wider m k)) o) (let e : suc j + m - 1 ≡ j + m = omega arith in e) ∙ ap (λ gs. next gs o) (sym (w m j k)))
 
@@ -106,7 +107,7 @@ close us = (omega arith, refl, refl)
 settled : (w : Keyword) (us : List Tok) → grip (keyword w) ≤ 0 → is_keyword kw.And (keyword w) ≡ false → is_keyword kw.Or (keyword w) ≡ false → Settled (word w 0 ∷ us)
 settled w us g a o = (g, a, o)
 
-quiet_end : (us : List Tok) → Quiet (word kw.End 0 ∷ us)
+pub quiet_end : (us : List Tok) → Quiet (word kw.End 0 ∷ us)
 quiet_end us = ((omega arith, refl, refl), (refl, refl, omega arith, refl, refl), refl, (refl, refl))
 
 quiet_until : (us : List Tok) → Quiet (word kw.Until 0 ∷ us)
@@ -162,15 +163,23 @@ used_wider : (u : Use) (a b p m : ℕ) (k : List Goal) → wider m (used u a b p
 used_wider part a b p m k = refl
 used_wider (into x n q l) a b p m k = refl
 
+opener_kind : (x : Opening) → kind_of (keyword (opener x)) ≡ None
+opener_kind opening.Block = refl
+opener_kind opening.Conditional = refl
+opener_kind opening.Choice = refl
+opener_kind opening.Ahead = refl
+opener_kind opening.Behind = refl
+opener_kind opening.Counted = refl
+
 -- goals that stand above others that are settled so
 abbrev Below : List Goal → Type 0
 Below k = (m : ℕ) → Settled (completion (wider m k)) × Safe (wider m k)
 
 module _ (t : Tok) where
-  step_paren : (l : ℕ) (k : List Goal) (o : List Entry) → Sound k → Step t (λ m next. parenthesis t next (l + m) (wider m k) o)
+  pub step_paren : (l : ℕ) (k : List Goal) (o : List Entry) → Sound k → Step t (λ m next. parenthesis t next (l + m) (wider m k) o)
   step_paren l k o s =
       if t (is_symbol sign.Open t.sort)
-      (λ e. dig t (λ l k. expr l ++ goal.sym sign.Close ∷ k) (λ m l k. refl) l k o (λ m l. expr_safe l (goal.sym sign.Close ∷ wider m k) (close (completion (wider m k))) (s m)))
+      (λ e. dig t (ap kind_of (symbol_is sign.Open t.sort e)) (λ l k. expr l ++ goal.sym sign.Close ∷ k) (λ m l k. refl) l k o (λ m l. expr_safe l (goal.sym sign.Close ∷ wider m k) (close (completion (wider m k))) (s m)))
       (λ e. no t)
 
   step_begins : (l : ℕ) (k : List Goal) (o : List Entry) → Below k → Step t (λ m next. begins t next (l + m) (wider m k) o)
@@ -192,7 +201,7 @@ module _ (t : Tok) where
   step_related : (l : ℕ) (k : List Goal) (o : List Entry) → Below k → Step t (λ m next. related t next (l + m) (wider m k) o)
   step_related l k o s =
       if t (is_keyword kw.Lnot t.sort)
-      (λ e. dig t (λ l k. goal.relation l ∷ goal.put (entry.Lnot t.place) ∷ k) (λ m l k. refl) l k o (λ m l. s m))
+      (λ e. dig t (ap kind_of (keyword_is kw.Lnot t.sort e)) (λ l k. goal.relation l ∷ goal.put (entry.Lnot t.place) ∷ k) (λ m l k. refl) l k o (λ m l. s m))
       (λ e. step_leading l (goal.more strength.Sum l ∷ goal.compare l ∷ k) o (λ m. ((s m).0, ((s m).0, s m))))
 
   -- any goals and a token that is not the end of the text
@@ -243,7 +252,7 @@ module _ (t : Tok) where
       class t (spelled_of t.sort)
       (λ n e. on (goal.target n t.place l ∷ k) o (λ m. ((s m).0.0, (s m).1)) (λ m next. refl))
       (λ e. class t (opening_of t.sort)
-      (λ x f. dig t (λ l k. inner x t.place l ++ k) (λ m l k. inner_wider x t.place m l k) l k o (λ m l. inner_safe x t.place l (wider m k) (s m).0 (s m).1))
+      (λ x f. dig t (ap kind_of (opening_is t.sort f) ∙ opener_kind x) (λ l k. inner x t.place l ++ k) (λ m l k. inner_wider x t.place m l k) l k o (λ m l. inner_safe x t.place l (wider m k) (s m).0 (s m).1))
       (λ f. step_feed live k o (λ m. (s m).1)))
   step_feed live (goal.block l ∷ k) o s =
       if t (is_symbol sign.Semicolon t.sort)

@@ -1,0 +1,218 @@
+-- Where the machine refuses, in the grammar's words. Assumes nothing.
+use Rattle.std.proofs.Common.{◌≡◌, ℕ, ◌+◌, ◌-◌, ◌<◌, cond, ◌⊎◌, List, [], ◌∷◌, ◌++◌, map, Some, None, Ok, Err, sym, refl, ap, ◌∙◌, subst, inl, inr, ⊎_elim, append-nil, append_assoc, arith}
+use Rattle.words.specs.declared.refusal.Refusal.{Refusal}
+use Rattle.words.specs.Refusals.{refuse}
+use Rattle.text.specs.declared.token.Kind.{Kind}
+use Rattle.text.specs.declared.token.Keyword.TheVariants as kw
+use Rattle.text.specs.declared.token.Symbol.TheVariants as sign
+use Rattle.text.specs.Cut.{Piece}
+use Rattle.syntax.specs.Entries.{Entry}
+use Rattle.syntax.specs.Entries as entry
+use Rattle.syntax.specs.Marks.{Tok, seen, kind_of, is_symbol, is_stop}
+use Rattle.syntax.specs.Machine.{Goal, Onward, Parsed, feed, program, unexpected, deeper, parenthesis, stated, stepping, limited}
+use Rattle.syntax.specs.Machine as goal
+use Rattle.syntax.specs.Works.{parse}
+use Rattle.trees.specs.Trees.{Program}
+use Rattle.grammar.specs.Grammar.{ProgramWritten, symbol}
+use Rattle.grammar.specs.Prefixes.{Begins, Converting, Begun, WrongAt, Unfinished, DeepAt, RefusedWhereNoneBegins, RefusedWhereTooDeep, RefusedSo}
+use Rattle.grammar.proofs.Marks.{empty, not_symbol}
+use Rattle.grammar.proofs.Runs.{run}
+use Rattle.grammar.proofs.Complete.{program_at, program_reads}
+use Rattle.grammar.proofs.Sound.{Alive, seen_alive, program_sound}
+use Rattle.grammar.proofs.Wider.{program_wider}
+use Rattle.grammar.proofs.Exact.{parse_run}
+use Rattle.grammar.proofs.Ends.{completion, Fine, via, accept, accept_paren, alive}
+use Rattle.grammar.proofs.Steps.{wider, Sound, Step, on, typed, refused, deep, step_feed, step_paren, quiet_end}
+
+clash : {A : Type 0} {x : Parsed} {r : Refusal} {es : List Entry} → x ≡ Err r → x ≡ Ok es → A
+clash p q = absurd cc
+
+alive_append : (xs ys : List Tok) → Alive xs → Alive ys → Alive (xs ++ ys)
+alive_append [] ys a b = b
+alive_append (x ∷ xs) ys a b = (a.0, alive_append xs ys a.1 b)
+
+abbrev last : Tok → List Tok → Tok
+last d [] = d
+last d (x ∷ xs) = last x xs
+
+last_is : (d : Tok) (xs : List Tok) (y : Tok) → last d (xs ++ y ∷ []) ≡ y
+last_is d [] y = refl
+last_is d (x ∷ xs) y = last_is x xs y
+
+-- the machine of m levels more
+wide : (m : ℕ) → wider m program ≡ program_at (32 + m)
+wide m = ap (λ l. goal.word kw.Begin ∷ goal.declarations ∷ goal.stmt l ∷ goal.block l ∷ goal.sym sign.Dot ∷ goal.finish ∷ []) (let e : 31 + m ≡ 32 + m - 1 = omega arith in e)
+
+-- tokens that are read begin a program; tokens that are refused with any levels are none
+begins : (l : ℕ) → 0 < l → (ts us : List Tok) → Alive ts → Alive us → Fine (run 0 (ts ++ us) (program_at l) []) → Begins l ts
+begins l g ts us a b f =
+    let x = program_sound 0 l g (ts ++ us) (alive_append ts us a b) f.0 f.1 in
+    (x.0, us, x.1)
+
+none_whole : (ts : List Tok) (r : Refusal) → ((m : ℕ) → run 0 ts (wider m program) [] ≡ Err r) → (l : ℕ) (q : Program) → ProgramWritten l q ts → ⊥
+none_whole ts r f l q w = clash (f l) (ap (λ k. run 0 ts k []) (wide l) ∙ program_reads (program_wider w (32 + l) (omega arith)) 0)
+
+-- after the tokens ts these goals are left, with m levels more
+abbrev Leads : List Tok → (ℕ → List Goal) → List Entry → Type 0
+Leads ts k o = (m end : ℕ) (us : List Tok) → run end (ts ++ us) (wider m program) [] ≡ run end us (k m) o
+
+data After (ts : List Tok) : Type 0 where
+  at : (gs : List Goal) (o : List Entry) → Sound gs → Leads ts (λ m. wider m gs) o → After ts
+  converting : (l : ℕ) (k : List Goal) (o : List Entry) → Sound k → Converting ts → Leads ts (λ m. goal.paren (l + m) ∷ wider m k) o → After ts
+
+begun_at : (ts : List Tok) → Alive ts → (gs : List Goal) (o : List Entry) → Sound gs → Leads ts (λ m. wider m gs) o → Begins 32 ts
+begun_at ts a gs o s f = begins 32 (omega arith) ts (completion (wider 0 gs)) a (alive (wider 0 gs)) (via (f 0 0 (completion (wider 0 gs))) (accept 0 (wider 0 gs) (s 0) o))
+
+begun : (ts : List Tok) → Alive ts → After ts → Begun ts
+begun ts a (at gs o s f) = (
+  begins 33 (omega arith) ts (completion (wider 1 gs)) a (alive (wider 1 gs)) (via (f 1 0 (completion (wider 1 gs))) (accept 0 (wider 1 gs) (s 1) o)),
+  inl (begun_at ts a gs o s f),
+)
+begun ts a (converting l k o s c f) = (
+  begins 33 (omega arith) ts (completion (goal.paren (l + 1) ∷ wider 1 k)) a (alive (goal.paren (l + 1) ∷ wider 1 k)) (via (f 1 0 (completion (goal.paren (l + 1) ∷ wider 1 k))) (accept_paren 0 (l + 1) (wider 1 k) (s 1) (omega arith) o)),
+  inr c,
+)
+
+-- what the tokens ts come to
+data Verdict (end : ℕ) (ts : List Tok) (x : Parsed) : Type 0 where
+  read : (es : List Entry) → x ≡ Ok es → Verdict end ts x
+  wrong : (p : ℕ) → x ≡ refuse 5 p → WrongAt ts p → Verdict end ts x
+  unfinished : x ≡ refuse 5 end → Unfinished ts → Verdict end ts x
+  too_deep : (p : ℕ) → x ≡ refuse 6 p → DeepAt ts p → Verdict end ts x
+
+-- the end of the text
+ended : (gs : List Goal) (o : List Entry) → ((end : ℕ) → Fine (run end [] (wider 0 gs) o)) ⊎ ((m end : ℕ) → run end [] (wider m gs) o ≡ refuse 5 end)
+unfolding stated stepping limited
+ended [] o = inr (λ m end. refl)
+ended (goal.put x ∷ k) o = ended k (o ++ x ∷ [])
+ended (goal.more x l ∷ k) o = ended k o
+ended (goal.compare l ∷ k) o = ended k o
+ended (goal.fields ∷ k) o = ended k o
+ended (goal.named n p l ∷ k) o = ended k (o ++ entry.Load n p ∷ [])
+ended (goal.clauses l ∷ k) o = ended k o
+ended (goal.stmt l ∷ k) o = ended k o
+ended (goal.otherwise l ∷ k) o = ended k (o ++ entry.Fi ∷ [])
+ended (goal.declarations ∷ k) o = ended k o
+ended (goal.finish ∷ k) o = inl (λ end. (o, refl))
+ended (g ∷ k) o = inr (λ m end. refl)
+
+over : {end : ℕ} {ts : List Tok} {x y : Parsed} → x ≡ y → Verdict end ts y → Verdict end ts x
+over {end} {ts} f v = subst (λ z. Verdict end ts z) (sym f) v
+
+whole : (end : ℕ) (ts : List Tok) → Verdict end ts (run end (ts ++ []) (wider 0 program) []) → Verdict end (ts ++ []) (run end (ts ++ []) (wider 0 program) [])
+whole end ts v = subst (λ z. Verdict end z (run end (ts ++ []) (wider 0 program) [])) (sym (append-nil ts)) v
+
+-- the token t, after the tokens ts, which lead to the goals k and the entries o
+module _ (end : ℕ) (ts : List Tok) (t : Tok) (us : List Tok) (k : ℕ → List Goal) (o : List Entry) (before : Alive ts) (a : After ts) (f : Leads ts k o) where
+  one : (m : ℕ) (vs : List Tok) → run 0 ((ts ++ t ∷ []) ++ vs) (wider m program) [] ≡ feed t (run 0 vs) (k m) o
+  one m vs = ap (λ x. run 0 x (wider m program) []) (append_assoc ts (t ∷ []) vs) ∙ f m 0 (t ∷ vs)
+
+  more : {h : ℕ → List Goal} {p : List Entry} → ((m : ℕ) (next : Onward) → feed t next (k m) o ≡ next (h m) p) → Leads (ts ++ t ∷ []) h p
+  more e m end vs = ap (λ x. run end x (wider m program) []) (append_assoc ts (t ∷ []) vs) ∙ f m end (t ∷ vs) ∙ e m (run end vs)
+
+  after : (After (ts ++ t ∷ []) → Verdict end ((ts ++ t ∷ []) ++ us) (run end ((ts ++ t ∷ []) ++ us) (wider 0 program) [])) → After (ts ++ t ∷ []) → Verdict end (ts ++ t ∷ us) (run end (ts ++ t ∷ us) (wider 0 program) [])
+  after next x = subst (λ z. Verdict end z (run end z (wider 0 program) [])) (append_assoc ts (t ∷ []) us) (next x)
+
+  is_wrong : ((m : ℕ) (next : Onward) → feed t next (k m) o ≡ refuse 5 t.place) → WrongAt (ts ++ t ∷ us) t.place
+  is_wrong e = record {
+    before = ts;
+    token = t;
+    behind = us;
+    tokens = refl;
+    stands = refl;
+    begun = begun ts before a;
+    none = λ l b. none_whole ((ts ++ t ∷ []) ++ b.1) record { number = 5; place = t.place } (λ m. one m b.1 ∙ e m (run 0 b.1)) l b.0 b.2;
+  }
+
+  no_level : kind_of t.sort ≡ None → ((next : Onward) → feed t next (k 0) o ≡ refuse 6 t.place) → Begun (ts ++ t ∷ []) → ⊥
+  no_level n e b =
+      ⊎_elim
+      (λ c. clash (one 0 c.1 ∙ e (run 0 c.1)) (program_reads c.2 0))
+      (λ c. empty c.is (ap (λ x. kind_of x.sort) (sym (last_is t c.before c.word) ∙ ap (last t) (sym c.tokens) ∙ last_is t ts t) ∙ n))
+      b.1
+
+  is_deep : (gs : List Goal) (p : List Entry) → kind_of t.sort ≡ None → ((next : Onward) → feed t next (k 0) o ≡ refuse 6 t.place) → Alive (ts ++ t ∷ []) → Fine (run 0 (completion gs) gs p) → ((next : Onward) → feed t next (k 1) o ≡ next gs p) → DeepAt (ts ++ t ∷ us) t.place
+  is_deep gs p n e alive_t x d = record {
+    before = ts;
+    token = t;
+    behind = us;
+    tokens = refl;
+    stands = refl;
+    begun = begun ts before a;
+    within = begins 33 (omega arith) (ts ++ t ∷ []) (completion gs) alive_t (alive gs) (via (one 1 (completion gs) ∙ d (run 0 (completion gs))) x);
+    opens = no_level n e;
+  }
+
+  judge : Alive (ts ++ t ∷ []) → (After (ts ++ t ∷ []) → Verdict end ((ts ++ t ∷ []) ++ us) (run end ((ts ++ t ∷ []) ++ us) (wider 0 program) [])) → ((c : Kind) (g : List Goal) (p : List Entry) → kind_of t.sort ≡ Some c → ((next : Onward) → feed t next (k 0) o ≡ next g p) → Converting (ts ++ t ∷ [])) → Step t (λ m next. feed t next (k m) o) → Verdict end (ts ++ t ∷ us) (run end (ts ++ t ∷ us) (wider 0 program) [])
+  judge alive_t next word (on g p s e) = after next (at g p s (more e))
+  judge alive_t next word (typed c l g p i s e) = after next (converting l g p s (word c (goal.paren (l + 0) ∷ wider 0 g) p i (e 0)) (more e))
+  judge alive_t next word (refused e) = over (f 0 end (t ∷ us) ∙ e 0 (run end us)) (wrong t.place refl (is_wrong e))
+  judge alive_t next word (deep g p n s e d) = over (f 0 end (t ∷ us) ∙ e (run end us)) (too_deep t.place refl (is_deep g p n e alive_t (accept 0 g s p) d))
+
+-- a type's word is no parenthesis
+no_typed : {A : Type 0} (t : Tok) (l : ℕ) (k : List Goal) (o : List Entry) (h : List Goal) (p : List Entry) {c : Kind} → kind_of t.sort ≡ Some c → ((next : Onward) → parenthesis t next l k o ≡ next h p) → A
+no_typed t l k o h p i e =
+    clash (ap (λ b. cond b (deeper t l (Ok [])) (unexpected t)) (not_symbol kind_of sign.Open t.sort refl i)) (e (λ gs es. Ok []))
+
+verdict : (us : List Tok) (end : ℕ) (ts : List Tok) → Alive ts → Alive us → After ts → Verdict end (ts ++ us) (run end (ts ++ us) (wider 0 program) [])
+verdict [] end ts a b (at gs o s f) =
+    whole end ts
+    (⊎_elim
+    (λ x. read (x end).0 (f 0 end [] ∙ (x end).1))
+    (λ x. unfinished (f 0 end [] ∙ x 0 end) record { begun = begun ts a (at gs o s f); none = none_whole ts record { number = 5; place = 0 } (λ m. ap (λ y. run 0 y (wider m program) []) (sym (append-nil ts)) ∙ f m 0 [] ∙ x m 0) })
+    (ended gs o))
+verdict [] end ts a b (converting l k o s c f) =
+    whole end ts
+    (unfinished (f 0 end []) record { begun = begun ts a (converting l k o s c f); none = none_whole ts record { number = 5; place = 0 } (λ m. ap (λ y. run 0 y (wider m program) []) (sym (append-nil ts)) ∙ f m 0 []) })
+verdict (t ∷ us) end ts a b (at gs o s f) =
+    let alive_t = alive_append ts (t ∷ []) a (b.0, tt) in
+    judge end ts t us (λ m. wider m gs) o a (at gs o s f) f alive_t (verdict us end (ts ++ t ∷ []) alive_t b.1)
+    (λ c g p i e. record { before = ts; word = t; kind = c; tokens = refl; is = i; begun = begun_at ts a gs o s f })
+    (step_feed t b.0 gs o s)
+verdict (t ∷ us) end ts a b (converting l k o s c f) =
+    let alive_t = alive_append ts (t ∷ []) a (b.0, tt) in
+    judge end ts t us (λ m. goal.paren (l + m) ∷ wider m k) o a (converting l k o s c f) f alive_t (verdict us end (ts ++ t ∷ []) alive_t b.1)
+    (λ d g p i e. no_typed t (l + 0) (wider 0 k) o g p i e)
+    (step_paren t l k o s)
+
+start : After []
+start = at program [] (λ m. (quiet_end (symbol sign.Dot 0 ∷ []), (quiet_end (symbol sign.Dot 0 ∷ []), tt))) (λ m end us. refl)
+
+parsed : (end : ℕ) (ps : List Piece) → Verdict end (map seen ps) (parse end ps)
+parsed end ps = over (parse_run end ps) (verdict (map seen ps) end [] tt (seen_alive ps) start)
+
+-- a refusal has one number and one place
+abbrev number_of : Parsed → ℕ
+number_of (Ok es) = 0
+number_of (Err r) = r.number
+
+abbrev place_of : Parsed → ℕ
+place_of (Ok es) = 0
+place_of (Err r) = r.place
+
+pub refused_where_none_begins : RefusedWhereNoneBegins
+refused_where_none_begins end place ps h = go (parsed end ps)
+  where
+    go : Verdict end (map seen ps) (parse end ps) → WrongAt (map seen ps) place ⊎ (Unfinished (map seen ps) × (place ≡ end))
+    go (read es e) = clash h e
+    go (wrong p e w) = inl (subst (WrongAt (map seen ps)) (ap place_of (sym e ∙ h)) w)
+    go (unfinished e u) = inr (u, ap place_of (sym h ∙ e))
+    go (too_deep p e d) = absurd (let z : 5 ≡ 6 = ap number_of (sym h ∙ e) in omega arith)
+
+pub refused_where_too_deep : RefusedWhereTooDeep
+refused_where_too_deep end place ps h = go (parsed end ps)
+  where
+    go : Verdict end (map seen ps) (parse end ps) → DeepAt (map seen ps) place
+    go (read es e) = clash h e
+    go (wrong p e w) = absurd (let z : 6 ≡ 5 = ap number_of (sym h ∙ e) in omega arith)
+    go (unfinished e u) = absurd (let z : 6 ≡ 5 = ap number_of (sym h ∙ e) in omega arith)
+    go (too_deep p e d) = subst (DeepAt (map seen ps)) (ap place_of (sym e ∙ h)) d
+
+pub refused_so : RefusedSo
+refused_so end ps r h = go (parsed end ps)
+  where
+    go : Verdict end (map seen ps) (parse end ps) → (r.number ≡ 5) ⊎ (r.number ≡ 6)
+    go (read es e) = clash h e
+    go (wrong p e w) = inl (ap number_of (sym h ∙ e))
+    go (unfinished e u) = inl (ap number_of (sym h ∙ e))
+    go (too_deep p e d) = inr (ap number_of (sym h ∙ e))
