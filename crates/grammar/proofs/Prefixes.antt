@@ -8,13 +8,13 @@ use Rattle.text.specs.declared.token.Symbol.TheVariants as sign
 use Rattle.text.specs.Cut.{Piece}
 use Rattle.syntax.specs.Entries.{Entry}
 use Rattle.syntax.specs.Entries as entry
-use Rattle.syntax.specs.Marks.{Tok, seen, kind_of, is_symbol, is_stop}
+use Rattle.syntax.specs.Marks.{Tok, seen, kind_of}
 use Rattle.syntax.specs.Machine.{Goal, Onward, Parsed, feed, program, unexpected, deeper, parenthesis, stated, stepping, limited}
 use Rattle.syntax.specs.Machine as goal
 use Rattle.syntax.specs.Works.{parse}
 use Rattle.trees.specs.Trees.{Program}
 use Rattle.grammar.specs.Grammar.{ProgramWritten, symbol}
-use Rattle.grammar.specs.Prefixes.{Begins, Converting, Begun, WrongAt, Unfinished, DeepAt, RefusedWhereNoneBegins, RefusedWhereTooDeep, RefusedSo}
+use Rattle.grammar.specs.Prefixes.{Begins, Converting, Begun, WrongAt, Unfinished, DeepAt, RefusedWhereNoneBegins, RefusedWhereTooDeep, RefusedOnlySo}
 use Rattle.grammar.proofs.Marks.{empty, not_symbol}
 use Rattle.grammar.proofs.Runs.{run}
 use Rattle.grammar.proofs.Complete.{program_at, program_reads}
@@ -208,8 +208,8 @@ refused_where_too_deep end place ps h = go (parsed end ps)
     go (unfinished e u) = absurd (let z : 6 ≡ 5 = ap number_of (sym h ∙ e) in omega arith)
     go (too_deep p e d) = subst (DeepAt (map seen ps)) (ap place_of (sym e ∙ h)) d
 
-pub refused_so : RefusedSo
-refused_so end ps r h = go (parsed end ps)
+pub refused_only_so : RefusedOnlySo
+refused_only_so end ps r h = go (parsed end ps)
   where
     go : Verdict end (map seen ps) (parse end ps) → (r.number ≡ 5) ⊎ (r.number ≡ 6)
     go (read es e) = clash h e

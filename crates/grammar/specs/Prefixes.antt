@@ -63,5 +63,5 @@ abbrev pub RefusedWhereTooDeep : Type 0
 RefusedWhereTooDeep = (end place : ℕ) (ps : List Piece) → parse end ps ≡ refuse 6 place → DeepAt (map seen ps) place
 
 -- and nothing else is answered
-abbrev pub RefusedSo : Type 0
-RefusedSo = (end : ℕ) (ps : List Piece) (r : Refusal) → parse end ps ≡ Err r → (r.number ≡ 5) ⊎ (r.number ≡ 6)
+abbrev pub RefusedOnlySo : Type 0
+RefusedOnlySo = (end : ℕ) (ps : List Piece) (r : Refusal) → parse end ps ≡ Err r → (r.number ≡ 5) ⊎ (r.number ≡ 6)
