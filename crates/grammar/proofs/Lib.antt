@@ -11,3 +11,4 @@ pub mod Wider
 pub mod Ends
 pub mod Steps
 pub mod Prefixes
+pub mod Places
