@@ -10,5 +10,5 @@ pub mod Rebuild
 pub mod Wider
 pub mod Ends
 pub mod Steps
-pub mod Prefixes
 pub mod Places
+pub mod Prefixes

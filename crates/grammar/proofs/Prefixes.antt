@@ -14,14 +14,15 @@ use Rattle.syntax.specs.Machine as goal
 use Rattle.syntax.specs.Works.{parse}
 use Rattle.trees.specs.Trees.{Program}
 use Rattle.grammar.specs.Grammar.{ProgramWritten, symbol}
-use Rattle.grammar.specs.Prefixes.{Begins, Converting, Begun, WrongAt, Unfinished, DeepAt, RefusedWhereNoneBegins, RefusedWhereTooDeep, RefusedOnlySo}
+use Rattle.grammar.specs.Prefixes.{Begins, Converting, Begun, WrongAt, Unfinished, DeepAt, Unexpected, RefusedWhereNoneBegins, RefusedWhereTooDeep, RefusedOnlySo}
 use Rattle.grammar.proofs.Marks.{empty, not_symbol}
 use Rattle.grammar.proofs.Runs.{run}
 use Rattle.grammar.proofs.Complete.{program_at, program_reads}
 use Rattle.grammar.proofs.Sound.{Alive, seen_alive, program_sound}
 use Rattle.grammar.proofs.Wider.{program_wider}
-use Rattle.grammar.proofs.Exact.{parse_run}
+use Rattle.grammar.proofs.Exact.{parse_run, reads_the_grammar}
 use Rattle.grammar.proofs.Ends.{completion, Fine, via, accept, accept_paren, alive}
+use Rattle.grammar.proofs.Places.{begins_to, begun_to, one_first}
 use Rattle.grammar.proofs.Steps.{wider, Sound, Step, on, typed, refused, deep, step_feed, step_paren, quiet_end}
 
 clash : {A : Type 0} {x : Parsed} {r : Refusal} {es : List Entry} → x ≡ Err r → x ≡ Ok es → A
@@ -190,23 +191,74 @@ abbrev place_of : Parsed → ℕ
 place_of (Ok es) = 0
 place_of (Err r) = r.place
 
+module _ (end : ℕ) (ps : List Piece) where
+  -- tokens that are read are begun, as far as any of them
+  read_begins : (b a : List Tok) (t : Tok) (es : List Entry) → map seen ps ≡ b ++ t ∷ a → parse end ps ≡ Ok es → Begins 32 (b ++ t ∷ [])
+  read_begins b a t es e h =
+      let x = (reads_the_grammar end ps es).0 h in
+      begins_to 32 (map seen ps) b a t e (x.0, [], subst (ProgramWritten 32 x.0) (sym (append-nil (map seen ps))) x.1)
+
+  unexpected_there : (place : ℕ) → parse end ps ≡ refuse 5 place → Unexpected end (map seen ps) place
+  unexpected_there place h = go (parsed end ps)
+    where
+      go : Verdict end (map seen ps) (parse end ps) → Unexpected end (map seen ps) place
+      go (read es e) = clash h e
+      go (wrong p e w) = inl (subst (WrongAt (map seen ps)) (ap place_of (sym e ∙ h)) w)
+      go (unfinished e u) = inr (u, ap place_of (sym h ∙ e))
+      go (too_deep p e d) = absurd (let z : 5 ≡ 6 = ap number_of (sym h ∙ e) in omega arith)
+
+  wrong_refused : (place : ℕ) → WrongAt (map seen ps) place → parse end ps ≡ refuse 5 place
+  wrong_refused place x = go (parsed end ps)
+    where
+      go : Verdict end (map seen ps) (parse end ps) → parse end ps ≡ refuse 5 place
+      go (read es e) = absurd (x.none 32 (read_begins x.before x.behind x.token es x.tokens e))
+      go (wrong p e w) =
+          let y = one_first (map seen ps) x.before w.before x.behind w.behind x.token w.token x.tokens w.tokens x.begun w.begun (λ b. x.none 33 b.0) (λ b. w.none 33 b.0) in
+          e ∙ ap (refuse 5) (sym w.stands ∙ ap (λ t. t.place) (sym y.1) ∙ x.stands)
+      go (unfinished e u) = absurd (x.none 33 (begins_to 33 (map seen ps) x.before x.behind x.token x.tokens u.begun.0))
+      go (too_deep p e d) =
+          let y = one_first (map seen ps) x.before d.before x.behind d.behind x.token d.token x.tokens d.tokens x.begun d.begun (λ b. x.none 33 b.0) d.opens in
+          absurd (x.none 33 (subst (λ b. Begins 33 (b ++ x.token ∷ [])) (sym y.0) (subst (λ t. Begins 33 (d.before ++ t ∷ [])) (sym y.1) d.within)))
+
+  unfinished_refused : Unfinished (map seen ps) → parse end ps ≡ refuse 5 end
+  unfinished_refused x = go (parsed end ps)
+    where
+      go : Verdict end (map seen ps) (parse end ps) → parse end ps ≡ refuse 5 end
+      go (read es e) = let y = (reads_the_grammar end ps es).0 e in absurd (x.none 32 y.0 y.1)
+      go (wrong p e w) = absurd (w.none 33 (begins_to 33 (map seen ps) w.before w.behind w.token w.tokens x.begun.0))
+      go (unfinished e u) = e
+      go (too_deep p e d) = absurd (d.opens (begun_to (map seen ps) d.before d.behind d.token d.tokens x.begun))
+
+  deep_there : (place : ℕ) → parse end ps ≡ refuse 6 place → DeepAt (map seen ps) place
+  deep_there place h = go (parsed end ps)
+    where
+      go : Verdict end (map seen ps) (parse end ps) → DeepAt (map seen ps) place
+      go (read es e) = clash h e
+      go (wrong p e w) = absurd (let z : 6 ≡ 5 = ap number_of (sym h ∙ e) in omega arith)
+      go (unfinished e u) = absurd (let z : 6 ≡ 5 = ap number_of (sym h ∙ e) in omega arith)
+      go (too_deep p e d) = subst (DeepAt (map seen ps)) (ap place_of (sym e ∙ h)) d
+
+  deep_refused : (place : ℕ) → DeepAt (map seen ps) place → parse end ps ≡ refuse 6 place
+  deep_refused place x = go (parsed end ps)
+    where
+      go : Verdict end (map seen ps) (parse end ps) → parse end ps ≡ refuse 6 place
+      go (read es e) = absurd (x.opens (x.within, inl (read_begins x.before x.behind x.token es x.tokens e)))
+      go (wrong p e w) =
+          let y = one_first (map seen ps) x.before w.before x.behind w.behind x.token w.token x.tokens w.tokens x.begun w.begun x.opens (λ b. w.none 33 b.0) in
+          absurd (w.none 33 (subst (λ b. Begins 33 (b ++ w.token ∷ [])) y.0 (subst (λ t. Begins 33 (x.before ++ t ∷ [])) y.1 x.within)))
+      go (unfinished e u) = absurd (x.opens (begun_to (map seen ps) x.before x.behind x.token x.tokens u.begun))
+      go (too_deep p e d) =
+          let y = one_first (map seen ps) x.before d.before x.behind d.behind x.token d.token x.tokens d.tokens x.begun d.begun x.opens d.opens in
+          e ∙ ap (refuse 6) (sym d.stands ∙ ap (λ t. t.place) (sym y.1) ∙ x.stands)
+
 pub refused_where_none_begins : RefusedWhereNoneBegins
-refused_where_none_begins end place ps h = go (parsed end ps)
-  where
-    go : Verdict end (map seen ps) (parse end ps) → WrongAt (map seen ps) place ⊎ (Unfinished (map seen ps) × (place ≡ end))
-    go (read es e) = clash h e
-    go (wrong p e w) = inl (subst (WrongAt (map seen ps)) (ap place_of (sym e ∙ h)) w)
-    go (unfinished e u) = inr (u, ap place_of (sym h ∙ e))
-    go (too_deep p e d) = absurd (let z : 5 ≡ 6 = ap number_of (sym h ∙ e) in omega arith)
+refused_where_none_begins end place ps = (
+  unexpected_there end ps place,
+  λ x. ⊎_elim (wrong_refused end ps place) (λ u. unfinished_refused end ps u.0 ∙ ap (refuse 5) (sym u.1)) x,
+)
 
 pub refused_where_too_deep : RefusedWhereTooDeep
-refused_where_too_deep end place ps h = go (parsed end ps)
-  where
-    go : Verdict end (map seen ps) (parse end ps) → DeepAt (map seen ps) place
-    go (read es e) = clash h e
-    go (wrong p e w) = absurd (let z : 6 ≡ 5 = ap number_of (sym h ∙ e) in omega arith)
-    go (unfinished e u) = absurd (let z : 6 ≡ 5 = ap number_of (sym h ∙ e) in omega arith)
-    go (too_deep p e d) = subst (DeepAt (map seen ps)) (ap place_of (sym e ∙ h)) d
+refused_where_too_deep end place ps = (deep_there end ps place, deep_refused end ps place)
 
 pub refused_only_so : RefusedOnlySo
 refused_only_so end ps r h = go (parsed end ps)

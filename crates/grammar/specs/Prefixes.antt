@@ -53,15 +53,21 @@ pub record DeepAt (ts : List Tok) (place : ℕ) : Type 0 where
   pub within : Begins 33 (before ++ token ∷ [])
   pub opens : Begun (before ++ token ∷ []) → ⊥
 
--- 5 is answered at the first token with which no program begins, or at the end, where the program has not ended
+-- The refusal 5 with this place: no program begins with the token there; or the tokens only begin one, and the place is
+-- the end of the text.
+abbrev pub Unexpected : (end : ℕ) → List Tok → (place : ℕ) → Type 0
+Unexpected end ts place = WrongAt ts place ⊎ (Unfinished ts × (place ≡ end))
+
+-- 5 is answered exactly where the grammar says so
 abbrev pub RefusedWhereNoneBegins : Type 0
 RefusedWhereNoneBegins =
-    (end place : ℕ) (ps : List Piece) → parse end ps ≡ refuse 5 place → WrongAt (map seen ps) place ⊎ (Unfinished (map seen ps) × (place ≡ end))
+    (end place : ℕ) (ps : List Piece) → (parse end ps ≡ refuse 5 place → Unexpected end (map seen ps) place) × (Unexpected end (map seen ps) place → parse end ps ≡ refuse 5 place)
 
--- 6 is answered at the token that opens level 33
+-- 6 is answered exactly at the token that opens level 33
 abbrev pub RefusedWhereTooDeep : Type 0
-RefusedWhereTooDeep = (end place : ℕ) (ps : List Piece) → parse end ps ≡ refuse 6 place → DeepAt (map seen ps) place
+RefusedWhereTooDeep =
+    (end place : ℕ) (ps : List Piece) → (parse end ps ≡ refuse 6 place → DeepAt (map seen ps) place) × (DeepAt (map seen ps) place → parse end ps ≡ refuse 6 place)
 
--- and nothing else is answered
+-- and there is no other refusal
 abbrev pub RefusedOnlySo : Type 0
 RefusedOnlySo = (end : ℕ) (ps : List Piece) (r : Refusal) → parse end ps ≡ Err r → (r.number ≡ 5) ⊎ (r.number ≡ 6)
