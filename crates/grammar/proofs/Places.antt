@@ -15,11 +15,10 @@ shorter (x ∷ xs) us (z ∷ ys) y e =
     let t : xs ++ us ≡ ys ++ y ∷ [] = cc in
     ⊎_elim (λ i. inl (ap₂ (λ a b. a ∷ b) h i)) (λ i. inr (i.0, ap₂ (λ a b. a ∷ b) (sym h) i.1)) (shorter xs us ys y t)
 
-Splits : (xs ys : List Tok) (x y : Tok) → Type 0
+abbrev Splits : (xs ys : List Tok) (x y : Tok) → Type 0
 Splits xs ys x y = ((ws : List Tok) × (ys ≡ (xs ++ x ∷ []) ++ ws)) ⊎ (((xs ≡ ys) × (x ≡ y)) ⊎ ((ws : List Tok) × (xs ≡ (ys ++ y ∷ []) ++ ws)))
 
 splits : (xs ys us vs : List Tok) (x y : Tok) → xs ++ x ∷ us ≡ ys ++ y ∷ vs → Splits xs ys x y
-unfolding Splits
 splits [] [] us vs x y e = inr (inl (refl, let h : x ≡ y = cc in h))
 splits [] (z ∷ ys) us vs x y e = inl (ys, ap (λ h. h ∷ ys) (let h : z ≡ x = cc in h))
 splits (z ∷ xs) [] us vs x y e = inr (inr (xs, ap (λ h. h ∷ xs) (let h : z ≡ y = cc in h)))
@@ -57,7 +56,6 @@ begun_to ts b a t e x = begun_fewer (b ++ t ∷ []) a (subst Begun (at_token ts 
 
 -- there is one first token with which they are not
 pub one_first : (ts b c a d : List Tok) (t u : Tok) → ts ≡ b ++ t ∷ a → ts ≡ c ++ u ∷ d → Begun b → Begun c → (Begun (b ++ t ∷ []) → ⊥) → (Begun (c ++ u ∷ []) → ⊥) → (b ≡ c) × (t ≡ u)
-unfolding Splits
 one_first ts b c a d t u e f x y n o =
     ⊎_elim
     (λ i. absurd (n (begun_fewer (b ++ t ∷ []) i.0 (subst Begun i.1 y))))

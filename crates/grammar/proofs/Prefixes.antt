@@ -21,7 +21,7 @@ use Rattle.grammar.proofs.Complete.{program_at, program_reads}
 use Rattle.grammar.proofs.Sound.{Alive, seen_alive, program_sound}
 use Rattle.grammar.proofs.Wider.{program_wider}
 use Rattle.grammar.proofs.Exact.{parse_run, reads_the_grammar}
-use Rattle.grammar.proofs.Ends.{completion, Fine, via, accept, accept_paren, alive}
+use Rattle.grammar.proofs.Ends.{completion, Safe, Fine, via, accept, accept_paren, alive}
 use Rattle.grammar.proofs.Places.{begins_to, begun_to, one_first}
 use Rattle.grammar.proofs.Steps.{wider, Sound, Step, on, typed, refused, deep, step_feed, step_paren, quiet_end}
 
@@ -97,10 +97,13 @@ ended (goal.declarations ∷ k) o = ended k o
 ended (goal.finish ∷ k) o = inl (λ end. (o, refl))
 ended (g ∷ k) o = inr (λ m end. refl)
 
+abbrev Judged : (end : ℕ) → List Tok → Type 0
+Judged end ts = Verdict end ts (run end ts (wider 0 program) [])
+
 over : {end : ℕ} {ts : List Tok} {x y : Parsed} → x ≡ y → Verdict end ts y → Verdict end ts x
 over {end} {ts} f v = subst (λ z. Verdict end ts z) (sym f) v
 
-whole : (end : ℕ) (ts : List Tok) → Verdict end ts (run end (ts ++ []) (wider 0 program) []) → Verdict end (ts ++ []) (run end (ts ++ []) (wider 0 program) [])
+whole : (end : ℕ) (ts : List Tok) → Verdict end ts (run end (ts ++ []) (wider 0 program) []) → Judged end (ts ++ [])
 whole end ts v = subst (λ z. Verdict end z (run end (ts ++ []) (wider 0 program) [])) (sym (append-nil ts)) v
 
 -- the token t, after the tokens ts, which lead to the goals k and the entries o
@@ -111,8 +114,8 @@ module _ (end : ℕ) (ts : List Tok) (t : Tok) (us : List Tok) (k : ℕ → List
   more : {h : ℕ → List Goal} {p : List Entry} → ((m : ℕ) (next : Onward) → feed t next (k m) o ≡ next (h m) p) → Leads (ts ++ t ∷ []) h p
   more e m end vs = ap (λ x. run end x (wider m program) []) (append_assoc ts (t ∷ []) vs) ∙ f m end (t ∷ vs) ∙ e m (run end vs)
 
-  after : (After (ts ++ t ∷ []) → Verdict end ((ts ++ t ∷ []) ++ us) (run end ((ts ++ t ∷ []) ++ us) (wider 0 program) [])) → After (ts ++ t ∷ []) → Verdict end (ts ++ t ∷ us) (run end (ts ++ t ∷ us) (wider 0 program) [])
-  after next x = subst (λ z. Verdict end z (run end z (wider 0 program) [])) (append_assoc ts (t ∷ []) us) (next x)
+  after : (After (ts ++ t ∷ []) → Judged end ((ts ++ t ∷ []) ++ us)) → After (ts ++ t ∷ []) → Judged end (ts ++ t ∷ us)
+  after next x = subst (Judged end) (append_assoc ts (t ∷ []) us) (next x)
 
   is_wrong : ((m : ℕ) (next : Onward) → feed t next (k m) o ≡ refuse 5 t.place) → WrongAt (ts ++ t ∷ us) t.place
   is_wrong e = record {
@@ -132,30 +135,35 @@ module _ (end : ℕ) (ts : List Tok) (t : Tok) (us : List Tok) (k : ℕ → List
       (λ c. empty c.is (ap (λ x. kind_of x.sort) (sym (last_is t c.before c.word) ∙ ap (last t) (sym c.tokens) ∙ last_is t ts t) ∙ n))
       b.1
 
-  is_deep : (gs : List Goal) (p : List Entry) → kind_of t.sort ≡ None → ((next : Onward) → feed t next (k 0) o ≡ refuse 6 t.place) → Alive (ts ++ t ∷ []) → Fine (run 0 (completion gs) gs p) → ((next : Onward) → feed t next (k 1) o ≡ next gs p) → DeepAt (ts ++ t ∷ us) t.place
-  is_deep gs p n e alive_t x d = record {
+  is_deep : Alive (ts ++ t ∷ []) → (gs : List Goal) (p : List Entry) → kind_of t.sort ≡ None → Safe gs →
+      ((next : Onward) → feed t next (k 0) o ≡ refuse 6 t.place) → ((next : Onward) → feed t next (k 1) o ≡ next gs p) → DeepAt (ts ++ t ∷ us) t.place
+  is_deep alive_t gs p n s e d = record {
     before = ts;
     token = t;
     behind = us;
     tokens = refl;
     stands = refl;
     begun = begun ts before a;
-    within = begins 33 (omega arith) (ts ++ t ∷ []) (completion gs) alive_t (alive gs) (via (one 1 (completion gs) ∙ d (run 0 (completion gs))) x);
+    within = begins 33 (omega arith) (ts ++ t ∷ []) (completion gs) alive_t (alive gs) (via (one 1 (completion gs) ∙ d (run 0 (completion gs))) (accept 0 gs s p));
     opens = no_level n e;
   }
 
-  judge : Alive (ts ++ t ∷ []) → (After (ts ++ t ∷ []) → Verdict end ((ts ++ t ∷ []) ++ us) (run end ((ts ++ t ∷ []) ++ us) (wider 0 program) [])) → ((c : Kind) (g : List Goal) (p : List Entry) → kind_of t.sort ≡ Some c → ((next : Onward) → feed t next (k 0) o ≡ next g p) → Converting (ts ++ t ∷ [])) → Step t (λ m next. feed t next (k m) o) → Verdict end (ts ++ t ∷ us) (run end (ts ++ t ∷ us) (wider 0 program) [])
+  -- a type's word may begin a conversion here
+  abbrev Worded : Type 0
+  Worded = (c : Kind) (g : List Goal) (p : List Entry) → kind_of t.sort ≡ Some c → ((next : Onward) → feed t next (k 0) o ≡ next g p) → Converting (ts ++ t ∷ [])
+
+  judge : Alive (ts ++ t ∷ []) → (After (ts ++ t ∷ []) → Judged end ((ts ++ t ∷ []) ++ us)) → Worded → Step t (λ m next. feed t next (k m) o) → Judged end (ts ++ t ∷ us)
   judge alive_t next word (on g p s e) = after next (at g p s (more e))
   judge alive_t next word (typed c l g p i s e) = after next (converting l g p s (word c (goal.paren (l + 0) ∷ wider 0 g) p i (e 0)) (more e))
   judge alive_t next word (refused e) = over (f 0 end (t ∷ us) ∙ e 0 (run end us)) (wrong t.place refl (is_wrong e))
-  judge alive_t next word (deep g p n s e d) = over (f 0 end (t ∷ us) ∙ e (run end us)) (too_deep t.place refl (is_deep g p n e alive_t (accept 0 g s p) d))
+  judge alive_t next word (deep g p n s e d) = over (f 0 end (t ∷ us) ∙ e (run end us)) (too_deep t.place refl (is_deep alive_t g p n s e d))
 
 -- a type's word is no parenthesis
 no_typed : {A : Type 0} (t : Tok) (l : ℕ) (k : List Goal) (o : List Entry) (h : List Goal) (p : List Entry) {c : Kind} → kind_of t.sort ≡ Some c → ((next : Onward) → parenthesis t next l k o ≡ next h p) → A
 no_typed t l k o h p i e =
     clash (ap (λ b. cond b (deeper t l (Ok [])) (unexpected t)) (not_symbol kind_of sign.Open t.sort refl i)) (e (λ gs es. Ok []))
 
-verdict : (us : List Tok) (end : ℕ) (ts : List Tok) → Alive ts → Alive us → After ts → Verdict end (ts ++ us) (run end (ts ++ us) (wider 0 program) [])
+verdict : (us : List Tok) (end : ℕ) (ts : List Tok) → Alive ts → Alive us → After ts → Judged end (ts ++ us)
 verdict [] end ts a b (at gs o s f) =
     whole end ts
     (⊎_elim

@@ -1,5 +1,5 @@
 -- Where the reader refuses, in the grammar's words.
-use Rattle.std.specs.Prelude.{◌≡◌, ℕ, ◌⊎◌, List, [], ◌∷◌, ◌++◌, map, Some, Err}
+use Rattle.std.specs.Prelude.{◌≡◌, ℕ, ◌⊎◌, ◌↔◌, List, [], ◌∷◌, ◌++◌, map, Some, Err}
 use Rattle.words.specs.declared.refusal.Refusal.{Refusal}
 use Rattle.words.specs.Refusals.{refuse}
 use Rattle.text.specs.declared.token.Kind.{Kind}
@@ -60,13 +60,11 @@ Unexpected end ts place = WrongAt ts place ⊎ (Unfinished ts × (place ≡ end)
 
 -- 5 is answered exactly where the grammar says so
 abbrev pub RefusedWhereNoneBegins : Type 0
-RefusedWhereNoneBegins =
-    (end place : ℕ) (ps : List Piece) → (parse end ps ≡ refuse 5 place → Unexpected end (map seen ps) place) × (Unexpected end (map seen ps) place → parse end ps ≡ refuse 5 place)
+RefusedWhereNoneBegins = (end place : ℕ) (ps : List Piece) → (parse end ps ≡ refuse 5 place) ↔ Unexpected end (map seen ps) place
 
 -- 6 is answered exactly at the token that opens level 33
 abbrev pub RefusedWhereTooDeep : Type 0
-RefusedWhereTooDeep =
-    (end place : ℕ) (ps : List Piece) → (parse end ps ≡ refuse 6 place → DeepAt (map seen ps) place) × (DeepAt (map seen ps) place → parse end ps ≡ refuse 6 place)
+RefusedWhereTooDeep = (end place : ℕ) (ps : List Piece) → (parse end ps ≡ refuse 6 place) ↔ DeepAt (map seen ps) place
 
 -- and there is no other refusal
 abbrev pub RefusedOnlySo : Type 0
