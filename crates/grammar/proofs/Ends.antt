@@ -161,15 +161,17 @@ module _ (end : ℕ) (us : List Tok) (k : List Goal) (ok : (o : List Entry) → 
 
   turned : (n : List ℕ) (p f l : ℕ) → Quiet us → (o : List Entry) → Accepts end (zero ∷ word kw.Do 0 ∷ us) (goal.turns n p f l ∷ k) o
   turned n p f l q o =
+      let g : List Goal = goal.put (entry.For n p f) ∷ goal.word kw.Do ∷ goal.stmt l ∷ goal.put (entry.Next n) ∷ goal.put entry.Drop ∷ k in
       via
       (turns_run end n p f l (zero ∷ word kw.Do 0 ∷ us) k o
-      ∙ whole (zero_lor l (word kw.Do 0 ∷ us)) end (goal.put (entry.For n p f) ∷ goal.word kw.Do ∷ goal.stmt l ∷ goal.put (entry.Next n) ∷ goal.put entry.Drop ∷ k) o (omega arith)
+      ∙ whole (zero_lor l (word kw.Do 0 ∷ us)) end g o (omega arith)
       ∙ drop_stmt end l us _ _ q.1
       ∙ puts end us (entry.Next n) _ _
       ∙ puts end us entry.Drop k _)
       (ok _)
 
-  stepped : (n : List ℕ) (p f l : ℕ) → Quiet us → (o : List Entry) → Accepts end (word kw.Until 0 ∷ zero ∷ word kw.Do 0 ∷ us) (goal.stepped n p f l ∷ k) o
+  stepped : (n : List ℕ) (p f l : ℕ) → Quiet us → (o : List Entry) →
+      Accepts end (word kw.Until 0 ∷ zero ∷ word kw.Do 0 ∷ us) (goal.stepped n p f l ∷ k) o
   unfolding stepping
   stepped n p f l q o = via (puts end (zero ∷ word kw.Do 0 ∷ us) entry.One (goal.turns n p f l ∷ k) o) (turned n p f l q _)
 
@@ -184,7 +186,9 @@ accept end (goal.word w ∷ k) h o = via (ap (λ b. cond b (run end (completion 
 accept end (goal.put x ∷ k) h o = put_ok end (completion k) k (accept end k h) x o
 accept end (goal.relation l ∷ k) h o = via (reads (zero_relation l (completion k)) end k o (mild (completion k) 3 h.0)) (accept end k h.1 _)
 accept end (goal.lead l ∷ k) h o =
-    via (reads (zero_term l (completion k)) end k o (mild (completion k) 6 h.0) ∙ drop_more end strength.Term l (completion k) k _ (mild (completion k) 5 h.0)) (accept end k h.1 _)
+    via
+    (reads (zero_term l (completion k)) end k o (mild (completion k) 6 h.0) ∙ drop_more end strength.Term l (completion k) k _ (mild (completion k) 5 h.0))
+    (accept end k h.1 _)
 accept end (goal.primary l ∷ k) h o = via (reads (zero_primary l (completion k)) end k o (mild (completion k) 7 h.0)) (accept end k h.1 _)
 accept end (goal.paren l ∷ k) h o = absurd h
 accept end (goal.more s l ∷ k) h o = via (drop_more end s l (completion k) k o (mild (completion k) (rank_of s) h.0)) (accept end k h.1 _)
@@ -206,7 +210,8 @@ accept end (goal.target_at n p q l ∷ k) h o = assigned end (completion k) k (a
 accept end (goal.becomes s n p l a b q ∷ k) h o = deposited end (completion k) k (accept end k h.1) l (entry.Deposit a b q) (stored s n p 0) h.0 o
 accept end (goal.variable f l ∷ k) h o =
     let us : List Tok = word kw.Until 0 ∷ zero ∷ word kw.Do 0 ∷ completion k in
-    assigned end us (goal.stepped (65 ∷ []) 0 f l ∷ k) (stepped end (completion k) k (accept end k h.1) (65 ∷ []) 0 f l h.0) l (entry.First (65 ∷ []) 0 f) (omega arith, refl, refl) o
+    let ok = stepped end (completion k) k (accept end k h.1) (65 ∷ []) 0 f l h.0 in
+    assigned end us (goal.stepped (65 ∷ []) 0 f l ∷ k) ok l (entry.First (65 ∷ []) 0 f) (omega arith, refl, refl) o
 accept end (goal.stepped n p f l ∷ k) h o = stepped end (completion k) k (accept end k h.1) n p f l h.0 o
 accept end (goal.turns n p f l ∷ k) h o = turned end (completion k) k (accept end k h.1) n p f l h.0 o
 accept end (goal.declarations ∷ k) h o = via (drop_declarations end (completion k) k o h.0.3) (accept end k h.1 _)

@@ -55,7 +55,8 @@ pub begun_to : (ts b a : List Tok) (t : Tok) → ts ≡ b ++ t ∷ a → Begun t
 begun_to ts b a t e x = begun_fewer (b ++ t ∷ []) a (subst Begun (at_token ts b a t e) x)
 
 -- there is one first token with which they are not
-pub one_first : (ts b c a d : List Tok) (t u : Tok) → ts ≡ b ++ t ∷ a → ts ≡ c ++ u ∷ d → Begun b → Begun c → (Begun (b ++ t ∷ []) → ⊥) → (Begun (c ++ u ∷ []) → ⊥) → (b ≡ c) × (t ≡ u)
+pub one_first : (ts b c a d : List Tok) (t u : Tok) → ts ≡ b ++ t ∷ a → ts ≡ c ++ u ∷ d → Begun b → Begun c →
+    (Begun (b ++ t ∷ []) → ⊥) → (Begun (c ++ u ∷ []) → ⊥) → (b ≡ c) × (t ≡ u)
 one_first ts b c a d t u e f x y n o =
     ⊎_elim
     (λ i. absurd (n (begun_fewer (b ++ t ∷ []) i.0 (subst Begun i.1 y))))

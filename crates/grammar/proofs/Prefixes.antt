@@ -42,7 +42,9 @@ last_is d (x ∷ xs) y = last_is x xs y
 
 -- the machine of m levels more
 wide : (m : ℕ) → wider m program ≡ program_at (32 + m)
-wide m = ap (λ l. goal.word kw.Begin ∷ goal.declarations ∷ goal.stmt l ∷ goal.block l ∷ goal.sym sign.Dot ∷ goal.finish ∷ []) (let e : 31 + m ≡ 32 + m - 1 = omega arith in e)
+wide m =
+    let e : 31 + m ≡ 32 + m - 1 = omega arith in
+    ap (λ l. goal.word kw.Begin ∷ goal.declarations ∷ goal.stmt l ∷ goal.block l ∷ goal.sym sign.Dot ∷ goal.finish ∷ []) e
 
 -- tokens that are read begin a program; tokens that are refused with any levels are none
 begins : (l : ℕ) → 0 < l → (ts us : List Tok) → Alive ts → Alive us → Fine (run 0 (ts ++ us) (program_at l) []) → Begins l ts
@@ -61,18 +63,21 @@ data After (ts : List Tok) : Type 0 where
   at : (gs : List Goal) (o : List Entry) → Sound gs → Leads ts (λ m. wider m gs) o → After ts
   converting : (l : ℕ) (k : List Goal) (o : List Entry) → Sound k → Converting ts → Leads ts (λ m. goal.paren (l + m) ∷ wider m k) o → After ts
 
-begun_at : (ts : List Tok) → Alive ts → (gs : List Goal) (o : List Entry) → Sound gs → Leads ts (λ m. wider m gs) o → Begins 32 ts
-begun_at ts a gs o s f = begins 32 (omega arith) ts (completion (wider 0 gs)) a (alive (wider 0 gs)) (via (f 0 0 (completion (wider 0 gs))) (accept 0 (wider 0 gs) (s 0) o))
+-- and can be completed
+begins_at : (m : ℕ) (ts : List Tok) → Alive ts → (k : ℕ → List Goal) (o : List Entry) → Leads ts k o →
+    Fine (run 0 (completion (k m)) (k m) o) → Begins (32 + m) ts
+begins_at m ts a k o f x =
+    let us = completion (k m) in
+    begins (32 + m) (omega arith) ts us a (alive (k m)) (via (ap (λ p. run 0 (ts ++ us) p []) (sym (wide m)) ∙ f m 0 us) x)
+
+begins_safe : (m : ℕ) (ts : List Tok) → Alive ts → (gs : List Goal) (o : List Entry) → Sound gs → Leads ts (λ m. wider m gs) o → Begins (32 + m) ts
+begins_safe m ts a gs o s f = begins_at m ts a (λ m. wider m gs) o f (accept 0 (wider m gs) (s m) o)
 
 begun : (ts : List Tok) → Alive ts → After ts → Begun ts
-begun ts a (at gs o s f) = (
-  begins 33 (omega arith) ts (completion (wider 1 gs)) a (alive (wider 1 gs)) (via (f 1 0 (completion (wider 1 gs))) (accept 0 (wider 1 gs) (s 1) o)),
-  inl (begun_at ts a gs o s f),
-)
-begun ts a (converting l k o s c f) = (
-  begins 33 (omega arith) ts (completion (goal.paren (l + 1) ∷ wider 1 k)) a (alive (goal.paren (l + 1) ∷ wider 1 k)) (via (f 1 0 (completion (goal.paren (l + 1) ∷ wider 1 k))) (accept_paren 0 (l + 1) (wider 1 k) (s 1) (omega arith) o)),
-  inr c,
-)
+begun ts a (at gs o s f) = (begins_safe 1 ts a gs o s f, inl (begins_safe 0 ts a gs o s f))
+begun ts a (converting l k o s c f) =
+    let x = accept_paren 0 (l + 1) (wider 1 k) (s 1) (omega arith) o in
+    (begins_at 1 ts a (λ m. goal.paren (l + m) ∷ wider m k) o f x, inr c)
 
 -- what the tokens ts come to
 data Verdict (end : ℕ) (ts : List Tok) (x : Parsed) : Type 0 where
@@ -144,39 +149,52 @@ module _ (end : ℕ) (ts : List Tok) (t : Tok) (us : List Tok) (k : ℕ → List
     tokens = refl;
     stands = refl;
     begun = begun ts before a;
-    within = begins 33 (omega arith) (ts ++ t ∷ []) (completion gs) alive_t (alive gs) (via (one 1 (completion gs) ∙ d (run 0 (completion gs))) (accept 0 gs s p));
+    within =
+        let us = completion gs in
+        begins 33 (omega arith) (ts ++ t ∷ []) us alive_t (alive gs) (via (one 1 us ∙ d (run 0 us)) (accept 0 gs s p));
     opens = no_level n e;
   }
 
   -- a type's word may begin a conversion here
   abbrev Worded : Type 0
-  Worded = (c : Kind) (g : List Goal) (p : List Entry) → kind_of t.sort ≡ Some c → ((next : Onward) → feed t next (k 0) o ≡ next g p) → Converting (ts ++ t ∷ [])
+  Worded =
+      (c : Kind) (g : List Goal) (p : List Entry) → kind_of t.sort ≡ Some c → ((next : Onward) → feed t next (k 0) o ≡ next g p) →
+      Converting (ts ++ t ∷ [])
 
-  judge : Alive (ts ++ t ∷ []) → (After (ts ++ t ∷ []) → Judged end ((ts ++ t ∷ []) ++ us)) → Worded → Step t (λ m next. feed t next (k m) o) → Judged end (ts ++ t ∷ us)
+  judge : Alive (ts ++ t ∷ []) → (After (ts ++ t ∷ []) → Judged end ((ts ++ t ∷ []) ++ us)) → Worded →
+      Step t (λ m next. feed t next (k m) o) → Judged end (ts ++ t ∷ us)
   judge alive_t next word (on g p s e) = after next (at g p s (more e))
   judge alive_t next word (typed c l g p i s e) = after next (converting l g p s (word c (goal.paren (l + 0) ∷ wider 0 g) p i (e 0)) (more e))
   judge alive_t next word (refused e) = over (f 0 end (t ∷ us) ∙ e 0 (run end us)) (wrong t.place refl (is_wrong e))
   judge alive_t next word (deep g p n s e d) = over (f 0 end (t ∷ us) ∙ e (run end us)) (too_deep t.place refl (is_deep alive_t g p n s e d))
 
 -- a type's word is no parenthesis
-no_typed : {A : Type 0} (t : Tok) (l : ℕ) (k : List Goal) (o : List Entry) (h : List Goal) (p : List Entry) {c : Kind} → kind_of t.sort ≡ Some c → ((next : Onward) → parenthesis t next l k o ≡ next h p) → A
+no_typed : {A : Type 0} (t : Tok) (l : ℕ) (k : List Goal) (o : List Entry) (h : List Goal) (p : List Entry) {c : Kind} →
+    kind_of t.sort ≡ Some c → ((next : Onward) → parenthesis t next l k o ≡ next h p) → A
 no_typed t l k o h p i e =
     clash (ap (λ b. cond b (deeper t l (Ok [])) (unexpected t)) (not_symbol kind_of sign.Open t.sort refl i)) (e (λ gs es. Ok []))
+
+-- the text ends after the tokens ts, and is refused there
+is_unfinished : (ts : List Tok) (k : ℕ → List Goal) (o : List Entry) → Alive ts → After ts → Leads ts k o →
+    ((m : ℕ) → run 0 [] (k m) o ≡ refuse 5 0) → Unfinished ts
+is_unfinished ts k o a x f e = record {
+  begun = begun ts a x;
+  none = none_whole ts record { number = 5; place = 0 } (λ m. ap (λ y. run 0 y (wider m program) []) (sym (append-nil ts)) ∙ f m 0 [] ∙ e m);
+}
 
 verdict : (us : List Tok) (end : ℕ) (ts : List Tok) → Alive ts → Alive us → After ts → Judged end (ts ++ us)
 verdict [] end ts a b (at gs o s f) =
     whole end ts
     (⊎_elim
     (λ x. read (x end).0 (f 0 end [] ∙ (x end).1))
-    (λ x. unfinished (f 0 end [] ∙ x 0 end) record { begun = begun ts a (at gs o s f); none = none_whole ts record { number = 5; place = 0 } (λ m. ap (λ y. run 0 y (wider m program) []) (sym (append-nil ts)) ∙ f m 0 [] ∙ x m 0) })
+    (λ x. unfinished (f 0 end [] ∙ x 0 end) (is_unfinished ts (λ m. wider m gs) o a (at gs o s f) f (λ m. x m 0)))
     (ended gs o))
 verdict [] end ts a b (converting l k o s c f) =
-    whole end ts
-    (unfinished (f 0 end []) record { begun = begun ts a (converting l k o s c f); none = none_whole ts record { number = 5; place = 0 } (λ m. ap (λ y. run 0 y (wider m program) []) (sym (append-nil ts)) ∙ f m 0 []) })
+    whole end ts (unfinished (f 0 end []) (is_unfinished ts (λ m. goal.paren (l + m) ∷ wider m k) o a (converting l k o s c f) f (λ m. refl)))
 verdict (t ∷ us) end ts a b (at gs o s f) =
     let alive_t = alive_append ts (t ∷ []) a (b.0, tt) in
     judge end ts t us (λ m. wider m gs) o a (at gs o s f) f alive_t (verdict us end (ts ++ t ∷ []) alive_t b.1)
-    (λ c g p i e. record { before = ts; word = t; kind = c; tokens = refl; is = i; begun = begun_at ts a gs o s f })
+    (λ c g p i e. record { before = ts; word = t; kind = c; tokens = refl; is = i; begun = begins_safe 0 ts a gs o s f })
     (step_feed t b.0 gs o s)
 verdict (t ∷ us) end ts a b (converting l k o s c f) =
     let alive_t = alive_append ts (t ∷ []) a (b.0, tt) in
@@ -221,11 +239,14 @@ module _ (end : ℕ) (ps : List Piece) where
       go : Verdict end (map seen ps) (parse end ps) → parse end ps ≡ refuse 5 place
       go (read es e) = absurd (x.none 32 (read_begins x.before x.behind x.token es x.tokens e))
       go (wrong p e w) =
-          let y = one_first (map seen ps) x.before w.before x.behind w.behind x.token w.token x.tokens w.tokens x.begun w.begun (λ b. x.none 33 b.0) (λ b. w.none 33 b.0) in
+          let n : Begun (x.before ++ x.token ∷ []) → ⊥ = λ b. x.none 33 b.0 in
+          let o : Begun (w.before ++ w.token ∷ []) → ⊥ = λ b. w.none 33 b.0 in
+          let y = one_first (map seen ps) x.before w.before x.behind w.behind x.token w.token x.tokens w.tokens x.begun w.begun n o in
           e ∙ ap (refuse 5) (sym w.stands ∙ ap (λ t. t.place) (sym y.1) ∙ x.stands)
       go (unfinished e u) = absurd (x.none 33 (begins_to 33 (map seen ps) x.before x.behind x.token x.tokens u.begun.0))
       go (too_deep p e d) =
-          let y = one_first (map seen ps) x.before d.before x.behind d.behind x.token d.token x.tokens d.tokens x.begun d.begun (λ b. x.none 33 b.0) d.opens in
+          let n : Begun (x.before ++ x.token ∷ []) → ⊥ = λ b. x.none 33 b.0 in
+          let y = one_first (map seen ps) x.before d.before x.behind d.behind x.token d.token x.tokens d.tokens x.begun d.begun n d.opens in
           absurd (x.none 33 (subst (λ b. Begins 33 (b ++ x.token ∷ [])) (sym y.0) (subst (λ t. Begins 33 (d.before ++ t ∷ [])) (sym y.1) d.within)))
 
   unfinished_refused : Unfinished (map seen ps) → parse end ps ≡ refuse 5 end
@@ -252,7 +273,8 @@ module _ (end : ℕ) (ps : List Piece) where
       go : Verdict end (map seen ps) (parse end ps) → parse end ps ≡ refuse 6 place
       go (read es e) = absurd (x.opens (x.within, inl (read_begins x.before x.behind x.token es x.tokens e)))
       go (wrong p e w) =
-          let y = one_first (map seen ps) x.before w.before x.behind w.behind x.token w.token x.tokens w.tokens x.begun w.begun x.opens (λ b. w.none 33 b.0) in
+          let n : Begun (w.before ++ w.token ∷ []) → ⊥ = λ b. w.none 33 b.0 in
+          let y = one_first (map seen ps) x.before w.before x.behind w.behind x.token w.token x.tokens w.tokens x.begun w.begun x.opens n in
           absurd (w.none 33 (subst (λ b. Begins 33 (b ++ w.token ∷ [])) y.0 (subst (λ t. Begins 33 (x.before ++ t ∷ [])) y.1 x.within)))
       go (unfinished e u) = absurd (x.opens (begun_to (map seen ps) x.before x.behind x.token x.tokens u.begun))
       go (too_deep p e d) =

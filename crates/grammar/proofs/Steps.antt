@@ -1,9 +1,8 @@
 -- One token: the goals that it leads to, with any number of further levels, or its refusal. Assumes nothing.
-use Rattle.std.proofs.Common.{◌≡◌, ℕ, zero, suc, ◌+◌, ◌-◌, ◌≤◌, Bool, true, false, cond, List, [], ◌∷◌, ◌++◌, Some, None, Option, refl, ap, ◌∙◌, subst, sym, arith}
+use Rattle.std.proofs.Common.{◌≡◌, ℕ, zero, suc, ◌+◌, ◌-◌, Bool, true, false, cond, List, [], ◌∷◌, ◌++◌, Some, None, Option, refl, ap, ◌∙◌, subst, sym, arith}
 use Rattle.words.specs.Refusals.{refuse}
 use Rattle.text.specs.declared.token.Kind.{Kind}
 use Rattle.text.specs.declared.token.Kind.TheVariants as kind
-use Rattle.text.specs.declared.token.Keyword.{Keyword}
 use Rattle.text.specs.declared.token.Keyword.TheVariants as kw
 use Rattle.text.specs.declared.token.Symbol.TheVariants as sign
 use Rattle.syntax.specs.declared.lexeme.Strength.{Strength}
@@ -16,7 +15,7 @@ use Rattle.syntax.specs.Marks.{keyword, Tok, is_stop, is_symbol, is_keyword, lit
 use Rattle.syntax.specs.Machine.{Goal, Use, part, into, Onward, Parsed, feed, expr, inner, right, used, stored, deeper, unexpected, parenthesis, begins, leading, related, stated, stepping, limited}
 use Rattle.syntax.specs.Machine as goal
 use Rattle.grammar.specs.Grammar.{symbol, word, decimal}
-use Rattle.grammar.proofs.Marks.{both, grip, symbol_is, keyword_is}
+use Rattle.grammar.proofs.Marks.{both, symbol_is, keyword_is}
 use Rattle.grammar.proofs.Runs.{deeper_in}
 use Rattle.grammar.proofs.Complete.{Settled}
 use Rattle.grammar.proofs.Sound.{opener, opening_is}
@@ -76,9 +75,11 @@ Sound k = (m : ℕ) → Safe (wider m k)
 -- is a type's word; to its refusal; or, where it is none, to a level that only the wider machines have.
 pub data Step (t : Tok) (X : ℕ → Onward → Parsed) : Type 0 where
   on : (gs : List Goal) (o : List Entry) → Sound gs → ((m : ℕ) (next : Onward) → X m next ≡ next (wider m gs) o) → Step t X
-  typed : (c : Kind) (l : ℕ) (k : List Goal) (o : List Entry) → kind_of t.sort ≡ Some c → Sound k → ((m : ℕ) (next : Onward) → X m next ≡ next (goal.paren (l + m) ∷ wider m k) o) → Step t X
+  typed : (c : Kind) (l : ℕ) (k : List Goal) (o : List Entry) → kind_of t.sort ≡ Some c → Sound k →
+      ((m : ℕ) (next : Onward) → X m next ≡ next (goal.paren (l + m) ∷ wider m k) o) → Step t X
   refused : ((m : ℕ) (next : Onward) → X m next ≡ refuse 5 t.place) → Step t X
-  deep : (gs : List Goal) (o : List Entry) → kind_of t.sort ≡ None → Safe gs → ((next : Onward) → X 0 next ≡ refuse 6 t.place) → ((next : Onward) → X 1 next ≡ next gs o) → Step t X
+  deep : (gs : List Goal) (o : List Entry) → kind_of t.sort ≡ None → Safe gs →
+      ((next : Onward) → X 0 next ≡ refuse 6 t.place) → ((next : Onward) → X 1 next ≡ next gs o) → Step t X
 
 module _ (t : Tok) where
   -- a test, and a class, of the token
@@ -86,7 +87,8 @@ module _ (t : Tok) where
   if true f g = f refl
   if false f g = g refl
 
-  class : {A : Type 0} {X : A → ℕ → Onward → Parsed} {Y : ℕ → Onward → Parsed} (x : Option A) → ((a : A) → x ≡ Some a → Step t (X a)) → (x ≡ None → Step t Y) → Step t (λ m next. elim x [ Some a ↦ X a m next | None ↦ Y m next ])
+  class : {A : Type 0} {X : A → ℕ → Onward → Parsed} {Y : ℕ → Onward → Parsed} (x : Option A) →
+      ((a : A) → x ≡ Some a → Step t (X a)) → (x ≡ None → Step t Y) → Step t (λ m next. elim x [ Some a ↦ X a m next | None ↦ Y m next ])
   class (Some a) f g = f a refl
   class None f g = g refl
 
@@ -94,18 +96,18 @@ module _ (t : Tok) where
   no = refused (λ m next. refl)
 
   -- a level is opened, for the goals G
-  dig : kind_of t.sort ≡ None → (G : ℕ → List Goal → List Goal) → ((m l : ℕ) (k : List Goal) → wider m (G l k) ≡ G (l + m) (wider m k)) → (l : ℕ) (k : List Goal) (o : List Entry) → ((m l : ℕ) → Safe (G l (wider m k))) → Step t (λ m next. deeper t (l + m) (next (G (l + m - 1) (wider m k)) o))
+  dig : kind_of t.sort ≡ None → (G : ℕ → List Goal → List Goal) → ((m l : ℕ) (k : List Goal) → wider m (G l k) ≡ G (l + m) (wider m k)) →
+      (l : ℕ) (k : List Goal) (o : List Entry) → ((m l : ℕ) → Safe (G l (wider m k))) →
+      Step t (λ m next. deeper t (l + m) (next (G (l + m - 1) (wider m k)) o))
   dig n G w zero k o s = deep (G 0 (wider 1 k)) o n (s 1 0) (λ next. refl) (λ next. refl)
   dig n G w (suc j) k o s =
       on (G j k) o (λ m. subst Safe (sym (w m j k)) (s m (j + m)))
-      (λ m next. deeper_in t (suc j + m) _ (omega arith) ∙ ap (λ x. next (G x (wider m k)) o) (let e : suc j + m - 1 ≡ j + m = omega arith in e) ∙ ap (λ gs. next gs o) (sym (w m j k)))
+      (λ m next. let e : suc j + m - 1 ≡ j + m = omega arith in
+      deeper_in t (suc j + m) _ (omega arith) ∙ ap (λ x. next (G x (wider m k)) o) e ∙ ap (λ gs. next gs o) (sym (w m j k)))
 
 -- what may stand behind an expression, and behind a statement
 close : (us : List Tok) → Settled (symbol sign.Close 0 ∷ us)
 close us = (omega arith, refl, refl)
-
-settled : (w : Keyword) (us : List Tok) → grip (keyword w) ≤ 0 → is_keyword kw.And (keyword w) ≡ false → is_keyword kw.Or (keyword w) ≡ false → Settled (word w 0 ∷ us)
-settled w us g a o = (g, a, o)
 
 pub quiet_end : (us : List Tok) → Quiet (word kw.End 0 ∷ us)
 quiet_end us = ((omega arith, refl, refl), (refl, refl, omega arith, refl, refl), refl, (refl, refl))
@@ -113,9 +115,14 @@ quiet_end us = ((omega arith, refl, refl), (refl, refl, omega arith, refl, refl)
 quiet_until : (us : List Tok) → Quiet (word kw.Until 0 ∷ us)
 quiet_until us = ((omega arith, refl, refl), (refl, refl, omega arith, refl, refl), refl, (refl, refl))
 
+-- an operand has so many goals that end with an optional part: a term three, an expression four
+three : {A B : Type 0} → A × B → A × (A × (A × B))
+three x = (x.0, (x.0, x))
+
+four : {A B : Type 0} → A × B → A × (A × (A × (A × B)))
+four x = (x.0, (x.0, (x.0, x)))
+
 -- goals above others
-expr_safe : (l : ℕ) (k : List Goal) → Settled (completion k) → Safe k → Safe (expr l ++ k)
-expr_safe l k h s = (h, (h, (h, (h, s))))
 
 right_safe : (x : Strength) (l : ℕ) (k : List Goal) → Settled (completion k) → Safe k → Safe (right x l ++ k)
 right_safe strength.Lor l k h s = (h, (h, (h, s)))
@@ -136,13 +143,13 @@ right_wider strength.Term m l k = refl
 inner_safe : (x : Opening) (p l : ℕ) (k : List Goal) → Quiet (completion k) → Safe k → Safe (inner x p l ++ k)
 inner_safe opening.Block p l k q s = (quiet_end (completion k), s)
 inner_safe opening.Conditional p l k q s =
-    let h = settled kw.Then (completion k) (omega arith) refl refl in
+    let h : Settled (word kw.Then 0 ∷ completion k) = (omega arith, refl, refl) in
     (h, (h, (q, (q, s))))
 inner_safe opening.Choice p l k q s =
-    let h = settled kw.Of (word kw.Begin 0 ∷ word kw.End 0 ∷ completion k) (omega arith) refl refl in
+    let h : Settled (word kw.Of 0 ∷ word kw.Begin 0 ∷ word kw.End 0 ∷ completion k) = (omega arith, refl, refl) in
     (h, (h, (h, (h, (quiet_end (completion k), s)))))
 inner_safe opening.Ahead p l k q s =
-    let h = settled kw.Do (completion k) (omega arith) refl refl in
+    let h : Settled (word kw.Do 0 ∷ completion k) = (omega arith, refl, refl) in
     (h, (h, (q, s)))
 inner_safe opening.Behind p l k q s = (quiet_until (decimal 0 0 ∷ completion k), (q.0, (q.0, s)))
 inner_safe opening.Counted p l k q s = (q, s)
@@ -179,7 +186,8 @@ module _ (t : Tok) where
   pub step_paren : (l : ℕ) (k : List Goal) (o : List Entry) → Sound k → Step t (λ m next. parenthesis t next (l + m) (wider m k) o)
   step_paren l k o s =
       if t (is_symbol sign.Open t.sort)
-      (λ e. dig t (ap kind_of (symbol_is sign.Open t.sort e)) (λ l k. expr l ++ goal.sym sign.Close ∷ k) (λ m l k. refl) l k o (λ m l. expr_safe l (goal.sym sign.Close ∷ wider m k) (close (completion (wider m k))) (s m)))
+      (λ e. dig t (ap kind_of (symbol_is sign.Open t.sort e)) (λ l k. expr l ++ goal.sym sign.Close ∷ k) (λ m l k. refl) l k o
+      (λ m l. four (close (completion (wider m k)), s m)))
       (λ e. no t)
 
   step_begins : (l : ℕ) (k : List Goal) (o : List Entry) → Below k → Step t (λ m next. begins t next (l + m) (wider m k) o)
@@ -195,14 +203,15 @@ module _ (t : Tok) where
   step_leading : (l : ℕ) (k : List Goal) (o : List Entry) → Below k → Step t (λ m next. leading t next (l + m) (wider m k) o)
   step_leading l k o s =
       if t (is_symbol sign.Minus t.sort)
-      (λ e. on (goal.primary l ∷ goal.fields ∷ goal.more strength.Term l ∷ goal.put (entry.Negate t.place) ∷ k) o (λ m. ((s m).0, ((s m).0, s m))) (λ m next. refl))
-      (λ e. step_begins l (goal.fields ∷ goal.more strength.Term l ∷ k) o (λ m. ((s m).0, ((s m).0, s m))))
+      (λ e. on (goal.primary l ∷ goal.fields ∷ goal.more strength.Term l ∷ goal.put (entry.Negate t.place) ∷ k) o (λ m. three (s m))
+      (λ m next. refl))
+      (λ e. step_begins l (goal.fields ∷ goal.more strength.Term l ∷ k) o (λ m. three (s m)))
 
   step_related : (l : ℕ) (k : List Goal) (o : List Entry) → Below k → Step t (λ m next. related t next (l + m) (wider m k) o)
   step_related l k o s =
       if t (is_keyword kw.Lnot t.sort)
       (λ e. dig t (ap kind_of (keyword_is kw.Lnot t.sort e)) (λ l k. goal.relation l ∷ goal.put (entry.Lnot t.place) ∷ k) (λ m l k. refl) l k o (λ m l. s m))
-      (λ e. step_leading l (goal.more strength.Sum l ∷ goal.compare l ∷ k) o (λ m. ((s m).0, ((s m).0, s m))))
+      (λ e. step_leading l (goal.more strength.Sum l ∷ goal.compare l ∷ k) o (λ m. three (s m)))
 
   -- any goals and a token that is not the end of the text
   pub step_feed : is_stop t.sort ≡ false → (gs : List Goal) (o : List Entry) → Sound gs → Step t (λ m next. feed t next (wider m gs) o)
@@ -217,9 +226,10 @@ module _ (t : Tok) where
   step_feed live (goal.paren l ∷ k) o s = absurd (s 0)
   step_feed live (goal.more x l ∷ k) o s =
       class t (operator_at x t.sort)
-      (λ b e. on (right x l ++ goal.put (entry.Binary b t.place) ∷ goal.more x l ∷ k) o
-      (λ m. subst Safe (sym (right_wider x m l (goal.put (entry.Binary b t.place) ∷ goal.more x l ∷ k))) (right_safe x (l + m) (goal.put (entry.Binary b t.place) ∷ goal.more x (l + m) ∷ wider m k) (s m).0 (s m)))
-      (λ m next. ap (λ gs. next gs o) (sym (right_wider x m l (goal.put (entry.Binary b t.place) ∷ goal.more x l ∷ k)))))
+      (λ b e. let g : List Goal = goal.put (entry.Binary b t.place) ∷ goal.more x l ∷ k in
+      on (right x l ++ g) o
+      (λ m. subst Safe (sym (right_wider x m l g)) (right_safe x (l + m) (wider m g) (s m).0 (s m)))
+      (λ m next. ap (λ gs. next gs o) (sym (right_wider x m l g))))
       (λ e. step_feed live k o (λ m. (s m).1))
   step_feed live (goal.compare l ∷ k) o s =
       class t (operator_at strength.Relation t.sort)
@@ -233,10 +243,12 @@ module _ (t : Tok) where
       if t (is_symbol sign.Open t.sort)
       (λ e. step_paren l (goal.put (entry.Index n p t.place) ∷ k) o (λ m. (s m).1))
       (λ e. step_feed live k (o ++ entry.Load n p ∷ []) (λ m. (s m).1))
-  step_feed live (goal.bits u ∷ k) o s = class t (decimal_of t.sort) (λ a e. on (goal.sym sign.Colon ∷ goal.upto u a t.place ∷ k) o s (λ m next. refl)) (λ e. no t)
+  step_feed live (goal.bits u ∷ k) o s =
+      class t (decimal_of t.sort) (λ a e. on (goal.sym sign.Colon ∷ goal.upto u a t.place ∷ k) o s (λ m next. refl)) (λ e. no t)
   step_feed live (goal.upto u a p ∷ k) o s =
       class t (decimal_of t.sort)
-      (λ b e. on (goal.sym sign.Close ∷ used u a b p k) o (λ m. used_safe u a b p m k (s m).0 (s m).1) (λ m next. ap (λ gs. next (goal.sym sign.Close ∷ gs) o) (sym (used_wider u a b p m k))))
+      (λ b e. on (goal.sym sign.Close ∷ used u a b p k) o (λ m. used_safe u a b p m k (s m).0 (s m).1)
+      (λ m next. ap (λ gs. next (goal.sym sign.Close ∷ gs) o) (sym (used_wider u a b p m k))))
       (λ e. no t)
   step_feed live (goal.shift ∷ k) o s = class t (shift_of t.sort) (λ x e. on (goal.sym sign.Open ∷ goal.count x ∷ k) o s (λ m next. refl)) (λ e. no t)
   step_feed live (goal.count x ∷ k) o s =
@@ -247,12 +259,15 @@ module _ (t : Tok) where
   step_feed live (goal.clauses l ∷ k) o s =
       if t (is_keyword kw.And t.sort)
       (λ e. on (goal.test l ∷ goal.clauses l ∷ k) o (λ m. ((s m).0, s m)) (λ m next. refl))
-      (λ e. if t (is_keyword kw.Or t.sort) (λ f. on (goal.put entry.Or ∷ goal.test l ∷ goal.clauses l ∷ k) o (λ m. ((s m).0, s m)) (λ m next. refl)) (λ f. step_feed live k o (λ m. (s m).1)))
+      (λ e. if t (is_keyword kw.Or t.sort)
+      (λ f. on (goal.put entry.Or ∷ goal.test l ∷ goal.clauses l ∷ k) o (λ m. ((s m).0, s m)) (λ m next. refl))
+      (λ f. step_feed live k o (λ m. (s m).1)))
   step_feed live (goal.stmt l ∷ k) o s =
       class t (spelled_of t.sort)
       (λ n e. on (goal.target n t.place l ∷ k) o (λ m. ((s m).0.0, (s m).1)) (λ m next. refl))
       (λ e. class t (opening_of t.sort)
-      (λ x f. dig t (ap kind_of (opening_is t.sort f) ∙ opener_kind x) (λ l k. inner x t.place l ++ k) (λ m l k. inner_wider x t.place m l k) l k o (λ m l. inner_safe x t.place l (wider m k) (s m).0 (s m).1))
+      (λ x f. dig t (ap kind_of (opening_is t.sort f) ∙ opener_kind x) (λ l k. inner x t.place l ++ k) (λ m l k. inner_wider x t.place m l k) l k o
+      (λ m l. inner_safe x t.place l (wider m k) (s m).0 (s m).1))
       (λ f. step_feed live k o (λ m. (s m).1)))
   step_feed live (goal.block l ∷ k) o s =
       if t (is_symbol sign.Semicolon t.sort)
@@ -264,7 +279,8 @@ module _ (t : Tok) where
       (λ e. step_feed live k (o ++ entry.Fi ∷ []) (λ m. (s m).1))
   step_feed live (goal.arms l ∷ k) o s =
       if t (is_symbol sign.Semicolon t.sort)
-      (λ e. on (goal.put entry.Out ∷ goal.put entry.Arm ∷ goal.stmt l ∷ goal.arms l ∷ k) o (λ m. (quiet_end (completion (wider m k)), s m)) (λ m next. refl))
+      (λ e. on (goal.put entry.Out ∷ goal.put entry.Arm ∷ goal.stmt l ∷ goal.arms l ∷ k) o
+      (λ m. (quiet_end (completion (wider m k)), s m)) (λ m next. refl))
       (λ e. if t (is_keyword kw.End t.sort) (λ f. on (goal.put entry.Out ∷ goal.put entry.Esac ∷ k) o s (λ m next. refl)) (λ f. no t))
   step_feed live (goal.target n p l ∷ k) o s =
       if t (is_symbol sign.Open t.sort)
@@ -272,50 +288,57 @@ module _ (t : Tok) where
       (λ e. if t (is_symbol sign.Dot t.sort)
       (λ f. on (goal.put (entry.Fetch n p) ∷ goal.sym sign.Open ∷ goal.bits (into false n p l) ∷ k) o s (λ m next. refl))
       (λ f. if t (is_symbol sign.Becomes t.sort)
-      (λ g. on (expr l ++ goal.put (entry.Store n p t.place) ∷ k) o (λ m. expr_safe (l + m) (goal.put (entry.Store n p t.place) ∷ wider m k) (s m).0 (s m).1) (λ m next. refl))
+      (λ g. on (expr l ++ goal.put (entry.Store n p t.place) ∷ k) o (λ m. four (s m)) (λ m next. refl))
       (λ g. no t)))
   step_feed live (goal.target_at n p q l ∷ k) o s =
       if t (is_symbol sign.Dot t.sort)
       (λ f. on (goal.put (entry.FetchAt n p q) ∷ goal.sym sign.Open ∷ goal.bits (into true n p l) ∷ k) o s (λ m next. refl))
       (λ f. if t (is_symbol sign.Becomes t.sort)
-      (λ g. on (goal.put (entry.Checked n p q) ∷ expr l ++ goal.put (entry.StoreAt n p t.place) ∷ k) o (λ m. expr_safe (l + m) (goal.put (entry.StoreAt n p t.place) ∷ wider m k) (s m).0 (s m).1) (λ m next. refl))
+      (λ g. on (goal.put (entry.Checked n p q) ∷ expr l ++ goal.put (entry.StoreAt n p t.place) ∷ k) o (λ m. four (s m)) (λ m next. refl))
       (λ g. no t))
   step_feed live (goal.becomes x n p l a b q ∷ k) o s =
       if t (is_symbol sign.Becomes t.sort)
-      (λ g. on (expr l ++ goal.put (entry.Deposit a b q) ∷ goal.put (stored x n p t.place) ∷ k) o (λ m. expr_safe (l + m) (goal.put (entry.Deposit a b q) ∷ goal.put (stored x n p t.place) ∷ wider m k) (s m).0 (s m).1) (λ m next. refl))
+      (λ g. on (expr l ++ goal.put (entry.Deposit a b q) ∷ goal.put (stored x n p t.place) ∷ k) o (λ m. four (s m)) (λ m next. refl))
       (λ g. no t)
   step_feed live (goal.variable f l ∷ k) o s =
       class t (spelled_of t.sort)
       (λ n e. on (goal.sym sign.Becomes ∷ expr l ++ goal.put (entry.First n t.place f) ∷ goal.stepped n t.place f l ∷ k) o
-      (λ m. expr_safe (l + m) (goal.put (entry.First n t.place f) ∷ goal.stepped n t.place f (l + m) ∷ wider m k) (settled kw.Until (decimal 0 0 ∷ word kw.Do 0 ∷ completion (wider m k)) (omega arith) refl refl) (s m))
+      (λ m. four ((quiet_until (decimal 0 0 ∷ word kw.Do 0 ∷ completion (wider m k))).0, s m))
       (λ m next. refl))
       (λ e. no t)
   step_feed live (goal.stepped n p f l ∷ k) o s =
       if t (is_keyword kw.Step t.sort)
       (λ e. on (expr l ++ goal.put (entry.Step f) ∷ goal.word kw.Until ∷ goal.turns n p f l ∷ k) o
-      (λ m. expr_safe (l + m) (goal.put (entry.Step f) ∷ goal.word kw.Until ∷ goal.turns n p f (l + m) ∷ wider m k) (settled kw.Until (decimal 0 0 ∷ word kw.Do 0 ∷ completion (wider m k)) (omega arith) refl refl) (s m))
+      (λ m. four ((quiet_until (decimal 0 0 ∷ word kw.Do 0 ∷ completion (wider m k))).0, s m))
       (λ m next. refl))
       (λ e. if t (is_keyword kw.Until t.sort) (λ g. on (goal.put entry.One ∷ goal.turns n p f l ∷ k) o s (λ m next. refl)) (λ g. no t))
   step_feed live (goal.turns n p f l ∷ k) o s =
-      step_related l
-      (goal.more strength.Land l ∷ goal.more strength.Xor l ∷ goal.more strength.Lor l ∷ goal.put (entry.For n p f) ∷ goal.word kw.Do ∷ goal.stmt l ∷ goal.put (entry.Next n) ∷ goal.put entry.Drop ∷ k)
-      o
-      (λ m. let h = settled kw.Do (completion (wider m k)) (omega arith) refl refl in (h, (h, (h, (h, s m)))))
+      let g : List Goal = goal.put (entry.For n p f) ∷ goal.word kw.Do ∷ goal.stmt l ∷ goal.put (entry.Next n) ∷ goal.put entry.Drop ∷ k in
+      step_related l (goal.more strength.Land l ∷ goal.more strength.Xor l ∷ goal.more strength.Lor l ∷ g) o
+      (λ m. let h : Settled (word kw.Do 0 ∷ completion (wider m k)) = (omega arith, refl, refl) in four (h, s m))
   step_feed live (goal.declarations ∷ k) o s =
       class t (kind_of t.sort)
       (λ c e. on (goal.typed c ∷ goal.declarations ∷ k) o s (λ m next. refl))
-      (λ e. if t (is_keyword kw.Array t.sort) (λ f. on (goal.item kind.Logical ∷ goal.comma true kind.Logical ∷ goal.declarations ∷ k) o s (λ m next. refl)) (λ f. step_feed live k o (λ m. (s m).1)))
+      (λ e. if t (is_keyword kw.Array t.sort)
+      (λ f. on (goal.item kind.Logical ∷ goal.comma true kind.Logical ∷ goal.declarations ∷ k) o s (λ m next. refl))
+      (λ f. step_feed live k o (λ m. (s m).1)))
   step_feed live (goal.typed c ∷ k) o s =
       if t (is_keyword kw.Array t.sort)
       (λ e. on (goal.item c ∷ goal.comma true c ∷ k) o s (λ m next. refl))
       (λ e. class t (spelled_of t.sort) (λ n f. on (goal.put (entry.Simple n c t.place) ∷ goal.comma false c ∷ k) o s (λ m next. refl)) (λ f. no t))
   step_feed live (goal.simple c ∷ k) o s = class t (spelled_of t.sort) (λ n f. on (goal.put (entry.Simple n c t.place) ∷ k) o s (λ m next. refl)) (λ f. no t)
   step_feed live (goal.comma true c ∷ k) o s =
-      if t (is_symbol sign.Comma t.sort) (λ e. on (goal.item c ∷ goal.comma true c ∷ k) o s (λ m next. refl)) (λ e. if t (is_symbol sign.Semicolon t.sort) (λ f. on k o s (λ m next. refl)) (λ f. no t))
+      if t (is_symbol sign.Comma t.sort)
+      (λ e. on (goal.item c ∷ goal.comma true c ∷ k) o s (λ m next. refl))
+      (λ e. if t (is_symbol sign.Semicolon t.sort) (λ f. on k o s (λ m next. refl)) (λ f. no t))
   step_feed live (goal.comma false c ∷ k) o s =
-      if t (is_symbol sign.Comma t.sort) (λ e. on (goal.simple c ∷ goal.comma false c ∷ k) o s (λ m next. refl)) (λ e. if t (is_symbol sign.Semicolon t.sort) (λ f. on k o s (λ m next. refl)) (λ f. no t))
-  step_feed live (goal.item c ∷ k) o s = class t (spelled_of t.sort) (λ n f. on (goal.sym sign.Open ∷ goal.low c n t.place ∷ k) o s (λ m next. refl)) (λ f. no t)
-  step_feed live (goal.low c n p ∷ k) o s = class t (decimal_of t.sort) (λ a e. on (goal.sym sign.Colon ∷ goal.high c n p a t.place ∷ k) o s (λ m next. refl)) (λ e. no t)
+      if t (is_symbol sign.Comma t.sort)
+      (λ e. on (goal.simple c ∷ goal.comma false c ∷ k) o s (λ m next. refl))
+      (λ e. if t (is_symbol sign.Semicolon t.sort) (λ f. on k o s (λ m next. refl)) (λ f. no t))
+  step_feed live (goal.item c ∷ k) o s =
+      class t (spelled_of t.sort) (λ n f. on (goal.sym sign.Open ∷ goal.low c n t.place ∷ k) o s (λ m next. refl)) (λ f. no t)
+  step_feed live (goal.low c n p ∷ k) o s =
+      class t (decimal_of t.sort) (λ a e. on (goal.sym sign.Colon ∷ goal.high c n p a t.place ∷ k) o s (λ m next. refl)) (λ e. no t)
   step_feed live (goal.high c n p a q ∷ k) o s =
       class t (decimal_of t.sort) (λ b e. on (goal.sym sign.Close ∷ goal.put (entry.Array n c a b p q) ∷ k) o s (λ m next. refl)) (λ e. no t)
   step_feed live (goal.finish ∷ k) o s = if t (is_stop t.sort) (λ e. both e live) (λ e. no t)
