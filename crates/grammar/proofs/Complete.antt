@@ -31,15 +31,15 @@ clause_reads (rule.and {l = l} {e = e} {c = c} {t = t} {vs = vs} w v) end k o h 
     ∙ ap (run end vs (goal.clauses l ∷ k)) (onto (o ++ list_e e []) (entry.Test t.place) (list_l c []) ∙ onto_e o e _)
 
 -- a condition ends before this
-abbrev Settled : List Tok → Type 0
+abbrev pub Settled : List Tok → Type 0
 Settled [] = Unit {0}
 Settled (t ∷ ts) = (grip t.sort ≤ 0) × (is_keyword kw.And t.sort ≡ false) × (is_keyword kw.Or t.sort ≡ false)
 
-held_of : (us : List Tok) → Settled us → Held 0 us
+pub held_of : (us : List Tok) → Settled us → Held 0 us
 held_of [] h = tt
 held_of (t ∷ us) h = h.0
 
-drop_clauses : (end l : ℕ) (us : List Tok) (k : List Goal) (o : List Entry) → Settled us → run end us (goal.clauses l ∷ k) o ≡ run end us k o
+pub drop_clauses : (end l : ℕ) (us : List Tok) (k : List Goal) (o : List Entry) → Settled us → run end us (goal.clauses l ∷ k) o ≡ run end us k o
 drop_clauses end l [] k o h = refl
 drop_clauses end l (t ∷ us) k o h = rw (h.1, h.2)
 
@@ -52,7 +52,7 @@ cond_reads (rule.or {l = l} {c = c} {d = d} {us = us} {vs = vs} w v) end k o h =
     ∙ ap (run end vs k) (onto (o ++ list_l c []) entry.Or (list_c d []) ∙ onto_l o c _)
 
 -- a statement ends before this
-abbrev Closing : List Tok → Type 0
+abbrev pub Closing : List Tok → Type 0
 Closing [] = Unit {0}
 Closing (t ∷ ts) = (spelled_of t.sort ≡ None) × (opening_of t.sort ≡ None) × (grip t.sort ≤ 0) × (is_keyword kw.And t.sort ≡ false) × (is_keyword kw.Or t.sort ≡ false)
 
@@ -63,17 +63,17 @@ settled_of (t ∷ us) h = (h.2, h.3, h.4)
 closed_of : (us : List Tok) → Closing us → Held 0 us
 closed_of us h = held_of us (settled_of us h)
 
-drop_stmt : (end l : ℕ) (us : List Tok) (k : List Goal) (o : List Entry) → Closing us → run end us (goal.stmt l ∷ k) o ≡ run end us k o
+pub drop_stmt : (end l : ℕ) (us : List Tok) (k : List Goal) (o : List Entry) → Closing us → run end us (goal.stmt l ∷ k) o ≡ run end us k o
 unfolding stated
 drop_stmt end l [] k o h = refl
 drop_stmt end l (t ∷ us) k o h = at_none _ _ h.0 ∙ at_none _ _ h.1
 
-drop_otherwise : (end l : ℕ) (us : List Tok) (k : List Goal) (o : List Entry) → NotElse us → run end us (goal.otherwise l ∷ k) o ≡ run end us k (o ++ entry.Fi ∷ [])
+pub drop_otherwise : (end l : ℕ) (us : List Tok) (k : List Goal) (o : List Entry) → NotElse us → run end us (goal.otherwise l ∷ k) o ≡ run end us k (o ++ entry.Fi ∷ [])
 drop_otherwise end l [] k o h = refl
 drop_otherwise end l (t ∷ us) k o h = rw h
 
 -- the limit of a FOR is an expression, and so on
-turns_run : (end : ℕ) (n : List ℕ) (p f l : ℕ) (us : List Tok) (k : List Goal) (o : List Entry) → run end us (goal.turns n p f l ∷ k) o ≡ run end us (expr l ++ goal.put (entry.For n p f) ∷ goal.word kw.Do ∷ goal.stmt l ∷ goal.put (entry.Next n) ∷ goal.put entry.Drop ∷ k) o
+pub turns_run : (end : ℕ) (n : List ℕ) (p f l : ℕ) (us : List Tok) (k : List Goal) (o : List Entry) → run end us (goal.turns n p f l ∷ k) o ≡ run end us (expr l ++ goal.put (entry.For n p f) ∷ goal.word kw.Do ∷ goal.stmt l ∷ goal.put (entry.Next n) ∷ goal.put entry.Drop ∷ k) o
 unfolding limited
 turns_run end n p f l [] k o = refl
 turns_run end n p f l (t ∷ us) k o = refl
@@ -239,11 +239,11 @@ typed_reads (rule.names (rule.several {p = q} rule.simple w)) end k o = items_re
 typed_reads (rule.arrays w) end k o = items_reads w end k o
 
 -- no declaration begins with this
-abbrev NoDeclaration : List Tok → Type 0
+abbrev pub NoDeclaration : List Tok → Type 0
 NoDeclaration [] = Unit {0}
 NoDeclaration (t ∷ ts) = (kind_of t.sort ≡ None) × (is_keyword kw.Array t.sort ≡ false)
 
-drop_declarations : (end : ℕ) (us : List Tok) (k : List Goal) (o : List Entry) → NoDeclaration us → run end us (goal.declarations ∷ k) o ≡ run end us k o
+pub drop_declarations : (end : ℕ) (us : List Tok) (k : List Goal) (o : List Entry) → NoDeclaration us → run end us (goal.declarations ∷ k) o ≡ run end us k o
 drop_declarations end [] k o h = refl
 drop_declarations end (t ∷ us) k o h = at_none _ _ h.0 ∙ rw h.1
 

@@ -53,20 +53,20 @@ abbrev pub Held : ℕ → List Tok → Type 0
 Held n [] = Unit {0}
 Held n (t ∷ ts) = grip t.sort ≤ n
 
-held : (us : List Tok) {m n : ℕ} → Held m us → m ≤ n → Held n us
+pub held : (us : List Tok) {m n : ℕ} → Held m us → m ≤ n → Held n us
 held [] h b = tt
 held (t ∷ us) h b = omega arith
 
 -- so it is dropped where the token is none of its own
-drop_more : (end : ℕ) (s : Strength) (l : ℕ) (us : List Tok) (k : List Goal) (o : List Entry) → Held (rank_of s) us → run end us (goal.more s l ∷ k) o ≡ run end us k o
+pub drop_more : (end : ℕ) (s : Strength) (l : ℕ) (us : List Tok) (k : List Goal) (o : List Entry) → Held (rank_of s) us → run end us (goal.more s l ∷ k) o ≡ run end us k o
 drop_more end s l [] k o h = refl
 drop_more end s l (t ∷ us) k o h = at_none _ _ (operator_none s t.sort h)
 
-drop_compare : (end l : ℕ) (us : List Tok) (k : List Goal) (o : List Entry) → Held 3 us → run end us (goal.compare l ∷ k) o ≡ run end us k o
+pub drop_compare : (end l : ℕ) (us : List Tok) (k : List Goal) (o : List Entry) → Held 3 us → run end us (goal.compare l ∷ k) o ≡ run end us k o
 drop_compare end l [] k o h = refl
 drop_compare end l (t ∷ us) k o h = at_none _ _ (operator_none strength.Relation t.sort h)
 
-drop_fields : (end : ℕ) (us : List Tok) (k : List Goal) (o : List Entry) → Held 6 us → run end us (goal.fields ∷ k) o ≡ run end us k o
+pub drop_fields : (end : ℕ) (us : List Tok) (k : List Goal) (o : List Entry) → Held 6 us → run end us (goal.fields ∷ k) o ≡ run end us k o
 drop_fields end [] k o h = refl
 drop_fields end (t ∷ us) k o h = rw (no_dot t.sort h, no_ampersand t.sort h)
 
@@ -183,7 +183,7 @@ pub puts : (end : ℕ) (us : List Tok) (x : Entry) (k : List Goal) (o : List Ent
 puts end [] x k o = refl
 puts end (t ∷ us) x k o = refl
 
-drop_named : (end : ℕ) (n : List ℕ) (p l : ℕ) (us : List Tok) (k : List Goal) (o : List Entry) → Held 7 us → run end us (goal.named n p l ∷ k) o ≡ run end us k (o ++ entry.Load n p ∷ [])
+pub drop_named : (end : ℕ) (n : List ℕ) (p l : ℕ) (us : List Tok) (k : List Goal) (o : List Entry) → Held 7 us → run end us (goal.named n p l ∷ k) o ≡ run end us k (o ++ entry.Load n p ∷ [])
 drop_named end n p l [] k o h = refl
 drop_named end n p l (t ∷ us) k o h = rw (no_open t.sort h)
 

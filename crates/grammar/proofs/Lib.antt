@@ -8,3 +8,7 @@ pub mod Sound
 pub mod Exact
 pub mod Rebuild
 pub mod Wider
+pub mod Ends
+pub mod Steps
+pub mod Places
+pub mod Prefixes

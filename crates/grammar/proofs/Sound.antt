@@ -78,7 +78,7 @@ decimal_is (mark.symbol s) h = absurd cc
 decimal_is mark.stop h = absurd cc
 
 -- the reserved word of each opening
-abbrev opener : Opening → Keyword
+abbrev pub opener : Opening → Keyword
 opener opening.Block = kw.Begin
 opener opening.Conditional = kw.If
 opener opening.Choice = kw.Case
@@ -118,7 +118,7 @@ opener_is kw.True h = absurd cc
 opener_is kw.False h = absurd cc
 opener_is kw.Comment h = absurd cc
 
-opening_is : (m : Mark) {x : Opening} → opening_of m ≡ Some x → m ≡ mark.keyword (opener x)
+pub opening_is : (m : Mark) {x : Opening} → opening_of m ≡ Some x → m ≡ mark.keyword (opener x)
 opening_is (mark.keyword w) h = ap mark.keyword (opener_is w h)
 opening_is (mark.name x) h = absurd cc
 opening_is (mark.symbol s) h = absurd cc

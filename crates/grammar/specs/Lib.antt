@@ -1,2 +1,3 @@
 pub mod Grammar
 pub mod Theorems
+pub mod Prefixes
