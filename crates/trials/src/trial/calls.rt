@@ -1,0 +1,47 @@
+// A trial is made and run.
+ghost use Rattle.trials.specs.Trials.{Tries};
+
+use crate::fault::TrialFault;
+use crate::trial::Trial;
+use code::compiler::Compiler;
+use session::call::{Answer, Call};
+use session::fault::CallFault;
+use session::lent::Lent;
+use session::session::Session;
+use std::alloc::{AllocError, Global};
+use words::instr::Instr;
+use words::store::Store;
+
+impl Trial {
+    // The only call that asks for memory.
+    pub fn new(heap: Global) -> Result<Trial, AllocError> {
+        Ok(Trial {
+            compiler: Compiler::new(heap)?,
+            table: vec![in heap; Instr::default(); 16383]?,
+        })
+    }
+
+    // Compiles a source, starts a session with its code, and makes the calls. Whatever refuses is found before the first
+    // of them, and then stack, store and answers are as they were. A call that is refused has its refusal for an answer.
+    pub fn play<S: Store>(
+        &mut self,
+        source: &[u8],
+        stack: &mut [u16],
+        store: &mut S,
+        calls: &[Call],
+        answers: &mut [Result<Answer, CallFault>],
+    ) -> Result<Session, TrialFault>
+        ensures did { Tries result source.now calls.now stack.old stack.new (S.Store.words store.old) (S.Store.words store.new) answers.old answers.new }
+        ensures keeps { S.Store.keeps store.old store.new }
+    {
+        if answers.len() < calls.len() {
+            return Err(TrialFault::Places);
+        }
+        let figures = self.compiler.compile(source, self.table.as_mut_slice())?;
+        let code = &self.table.as_slice()[0..figures.count as usize];
+        let mut lent = Lent { code, stack, store };
+        let mut session = Session::start(figures.cells, figures.depth, &lent)?;
+        let _ = session.play(&mut lent, calls, answers);
+        Ok(session)
+    }
+}
