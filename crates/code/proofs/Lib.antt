@@ -1,1 +1,2 @@
 pub mod Compiling
+pub mod Exact
