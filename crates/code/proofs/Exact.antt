@@ -1,14 +1,18 @@
 -- What is compiled is what the rules give for the source's tree. Assumes nothing.
-use Rattle.std.proofs.Common.{◌≡◌, ℕ, ◌≤◌, min, Bool, true, false, cond, List, length, Some, None, Ok, Err, Option, Result, sym, refl, ap, subst, ◌∙◌}
+use Rattle.std.proofs.Common.{◌≡◌, ℕ, ◌<◌, ◌≤◌, ◌⊎◌, inl, inr, min, Bool, true, false, cond, List, map, length, Some, None, Ok, Err, Option, Result, sym, refl, ap, subst, ◌∙◌}
 use Rattle.std.specs.Prelude.{nat_le}
-use Rattle.std.proofs.lemmas.Bool.{leb-true}
+use Rattle.std.proofs.lemmas.Bool.{leb-true, le-leb, lt-leb}
 use Rattle.words.specs.declared.refusal.Refusal.{Refusal}
 use Rattle.words.specs.Refusals.{refuse, then}
 use Rattle.syntax.specs.Entries.{Entry}
-use Rattle.syntax.specs.Works.{syntaxed}
+use Rattle.syntax.specs.Machine.{Parsed}
+use Rattle.syntax.specs.Works.{parse, syntaxed}
+use Rattle.syntax.specs.Marks.{seen}
+use Rattle.text.specs.Cut.{Piece, texted}
+use Rattle.grammar.specs.Grammar.{ProgramWritten}
 use Rattle.trees.specs.Trees.{Program}
 use Rattle.trees.specs.Lists.{list}
-use Rattle.grammar.proofs.Exact.{cut_of, reads_the_grammar}
+use Rattle.grammar.proofs.Exact.{cut_of, reads_the_grammar, one_tree}
 use Rattle.typed.specs.Instrs.{peak}
 use Rattle.typed.specs.Code.{program, depth}
 use Rattle.emit.specs.Items.{emitted}
@@ -24,6 +28,7 @@ use Rattle.checks.proofs.OnTypes.{types_program}
 use Rattle.checks.proofs.OnSizes.{sizes_program}
 use Rattle.checks.proofs.OnWriting.{typed_program}
 use Rattle.code.specs.Compile.{Code, code_of, fitted, compiled, IsWritten, IsAdmitted, CompiledTree}
+use Rattle.code.specs.Theorems.{code_for, found, Unread, CompilesExactly}
 
 -- the tree that a source is read to, and it is written so
 pub read_to : (source : List ℕ) (es : List Entry) → syntaxed source ≡ Ok es → (p : Program) × IsWritten source p × (list p ≡ es)
@@ -33,7 +38,7 @@ read_to source es h =
     (w.0, record { pieces = c.0; cut = c.1; written = w.1 }, w.2)
 
 -- the stages over its list are those of the tree
-verdict_is : (p : Program) → verdict (list p) ≡ earlier (least (program_names p)) (earlier (least (program_types p)) (least (program_sizes p)))
+verdict_is : (p : Program) → verdict (list p) ≡ found p
 unfolding verdict
 verdict_is p = rw (table_program p, names_program p, types_program p, sizes_program p)
 
@@ -101,3 +106,82 @@ tree_of source room c h =
       },
       a.4,
     )
+
+-- and back, from the tree
+listed : (source : List ℕ) (p : Program) → IsWritten source p → syntaxed source ≡ Ok (list p)
+unfolding syntaxed
+listed source p w = ap (λ x. then x (parse (length source))) w.cut ∙ (reads_the_grammar (length source) w.pieces (list p)).1 (p, w.written, refl)
+
+code_is : (p : Program) → code_of (outcome (list p)) ≡ code_for p
+unfolding depth
+code_is p = rw (table_program p, emitted_is p) refl
+
+-- by what the stages find in the tree
+found_is : (source : List ℕ) (room : ℕ) (p : Program) → IsWritten source p →
+    compiled source room ≡ then (answered (found p) (outcome (list p))) (λ c. fitted room (length source) (code_of c))
+unfolding compiled checked judged
+found_is source room p w = rw (listed source p w, verdict_is p) refl
+
+found_none : (p : Program) → IsAdmitted p → found p ≡ None
+found_none p a = rw (a.names, a.types, a.sizes) refl
+
+fits : (source : List ℕ) (room : ℕ) (p : Program) → IsWritten source p → IsAdmitted p → compiled source room ≡ fitted room (length source) (code_for p)
+fits source room p w a =
+    found_is source room p w
+    ∙ ap (λ o. then (answered o (outcome (list p))) (λ c. fitted room (length source) (code_of c))) (found_none p a)
+    ∙ ap (fitted room (length source)) (code_is p)
+
+each : (source : List ℕ) (room : ℕ) (p : Program) →
+    IsWritten source p → IsAdmitted p → length (program (resolve p)) ≤ min 16383 room → compiled source room ≡ Ok (code_for p)
+each source room p w a l = fits source room p w a ∙ ap (λ b. cond b (Ok (code_for p)) (refuse 14 (length source))) (le-leb _ _ l)
+
+long : (source : List ℕ) (room : ℕ) (p : Program) →
+    IsWritten source p → IsAdmitted p → min 16383 room < length (program (resolve p)) → compiled source room ≡ refuse 14 (length source)
+long source room p w a l = fits source room p w a ∙ ap (λ b. cond b (Ok (code_for p)) (refuse 14 (length source))) (lt-leb _ _ l)
+
+faulty : (source : List ℕ) (room : ℕ) (p : Program) (f : Refusal) → IsWritten source p → found p ≡ Some f → compiled source room ≡ Err f
+faulty source room p f w e = found_is source room p w ∙ ap (λ o. then (answered o (outcome (list p))) (λ c. fitted room (length source) (code_of c))) e
+
+unread : (source : List ℕ) (room : ℕ) (f : Refusal) → Unread source f → compiled source room ≡ Err f
+unfolding compiled checked syntaxed
+unread source room f (inl e) = rw e refl
+unread source room f (inr x) = rw (x.1, x.2) refl
+
+in_order : (p : Program) → found p ≡ None → IsAdmitted p
+in_order p h = admitted p (verdict_is p ∙ h)
+
+one : (source : List ℕ) (p q : Program) → IsWritten source p → IsWritten source q → p ≡ q
+one source p q v w =
+    let e : v.pieces ≡ w.pieces = cc in
+    one_tree 32 32 p q (map seen w.pieces) (subst (λ ps. ProgramWritten 32 p (map seen ps)) e v.written) w.written
+
+unread_list : (source : List ℕ) (f : Refusal) (ps : List Piece) → texted source ≡ Ok ps → parse (length source) ps ≡ Err f → syntaxed source ≡ Err f
+unfolding syntaxed
+unread_list source f ps e h = ap (λ x. then x (parse (length source))) e ∙ h
+
+none : (source : List ℕ) (p : Program) (f : Refusal) → IsWritten source p → Unread source f → ⊥
+none source p f w (inl e) = cc
+none source p f w (inr x) = let g = listed source p w in let u : syntaxed source ≡ Err f = unread_list source f x.0 x.1 x.2 in cc
+
+refused_so : (n : ℕ) (x : Result (List Piece) Refusal) (f : Refusal) → then x (parse n) ≡ Err f → (x ≡ Err f) ⊎ ((ps : List Piece) × (x ≡ Ok ps) × (parse n ps ≡ Err f))
+refused_so n (Ok ps) f h = inr (ps, refl, h)
+refused_so n (Err e) f h = inl (cc)
+
+parsed : (source : List ℕ) (x : Parsed) → syntaxed source ≡ x → ((p : Program) × IsWritten source p) ⊎ ((f : Refusal) × Unread source f)
+unfolding syntaxed
+parsed source (Ok es) h = let w = read_to source es h in inl (w.0, w.1)
+parsed source (Err f) h = inr (f, refused_so (length source) (texted source) f h)
+
+pub compiles_exactly : CompilesExactly
+compiles_exactly =
+    record {
+      read = λ source. parsed source (syntaxed source) refl;
+      one = one;
+      none = none;
+      only = tree_of;
+      each = each;
+      unread = unread;
+      faulty = faulty;
+      admitted = λ p. (found_none p, in_order p);
+      long = long;
+    }
