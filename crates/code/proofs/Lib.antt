@@ -1,1 +1,4 @@
 pub mod Compiling
+pub mod Exact
+pub mod Heights
+pub mod Enclosed

@@ -1,2 +1,5 @@
 pub mod Faults
 pub mod Compile
+pub mod Theorems
+pub mod Enclosed
+pub mod Heights
