@@ -11,3 +11,4 @@ pub mod Judging
 pub mod Counting
 pub mod NameRules
 pub mod SizeRules
+pub mod NamedCells

@@ -4,12 +4,12 @@ use Rattle.words.specs.declared.refusal.Refusal.{Refusal}
 use Rattle.trees.specs.Trees.{Expr, number, load, index, binary, negate, lnot, convert, field, shift, Clause, test, and, Cond, only, or, Step, absent, by, Stmt, assign, assign_at, deposit, deposit_at, when, either, choose, while, repeat, count, Body, end, then, Arms, last, arm, Decl, simple, array, Program}
 use Rattle.checks.specs.declared.entry.Sort.{Sort}
 use Rattle.checks.specs.declared.entry.Sort.TheVariants as sort
-use Rattle.checks.specs.Faults.{at, also}
-use Rattle.checks.specs.Tables.{Row, Table, look}
-use Rattle.checks.specs.Names.{is_sort, used_as, used, names_e, names_l, names_c, names_p, names_s, names_b, names_a}
+use Rattle.checks.specs.Faults.{at, also, least}
+use Rattle.checks.specs.Tables.{Row, Table, look, empty}
+use Rattle.checks.specs.Names.{is_sort, used_as, used, entering, names_d, program_table, program_names, names_e, names_l, names_c, names_p, names_s, names_b, names_a}
 use Rattle.checks.specs.Rules.{Declared, NamedE, NamedL, NamedC, NamedP, NamedS, NamedB, NamedA}
 use Rattle.checks.proofs.Laying.{some_none}
-use Rattle.checks.proofs.Narrowing.{also_none, unless_none}
+use Rattle.checks.proofs.Narrowing.{least_none, also_none, unless_none}
 
 same_sort : (a b : Sort) → is_sort a b ≡ true → b ≡ a
 same_sort sort.Simple sort.Simple e = refl
@@ -130,3 +130,14 @@ module _ (t : Table) where
         let x = there_b b (names_a t a fs) h in
         let y = there_a a fs x.1 in
         ((x.0, y.0), y.1)
+
+rest_d : (ds : List Decl) (t : Table) (fs : List Refusal) → names_d t ds fs ≡ [] → fs ≡ []
+rest_d [] t fs h = h
+rest_d (simple n k p ∷ ds) t fs h = rest_d ds _ fs (also_none (entering t n p) _ h).1
+rest_d (array n k l u p q ∷ ds) t fs h = rest_d ds _ fs (also_none (entering t n p) _ h).1
+
+pub named_program : (p : Program) → least (program_names p) ≡ None → NamedB (program_table p) p.body
+unfolding program_names
+named_program p h =
+    let e = least_none (program_names p) h in
+    (there_b (program_table p) p.body [] (rest_d p.decls empty _ e)).0

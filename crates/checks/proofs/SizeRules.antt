@@ -1,13 +1,15 @@
 -- The stage of sizes finds no fault exactly where the sizes are in order. Assumes nothing.
-use Rattle.std.proofs.Common.{◌≡◌, ℕ, ◌≤◌, true, leb, List, [], ◌∷◌, refl}
+use Rattle.std.proofs.Common.{◌≡◌, ℕ, ◌≤◌, true, leb, List, [], ◌∷◌, None}
 use Rattle.std.proofs.lemmas.Bool.{leb-true}
 use Rattle.words.specs.declared.refusal.Refusal.{Refusal}
 use Rattle.arith.specs.Fields.{is_field}
 use Rattle.trees.specs.Trees.{Expr, number, load, index, binary, negate, lnot, convert, field, shift, Clause, test, and, Cond, only, or, Step, absent, by, Stmt, assign, assign_at, deposit, deposit_at, when, either, choose, while, repeat, count, Body, end, then, Arms, last, arm, Decl, simple, array, Program}
-use Rattle.checks.specs.Faults.{also}
-use Rattle.checks.specs.Sizes.{bits_fault, shift_fault, sizes_e, sizes_l, sizes_c, sizes_p, sizes_s, sizes_b, sizes_a}
+use Rattle.checks.specs.Faults.{also, least}
+use Rattle.checks.specs.Tables.{Table}
+use Rattle.checks.specs.Names.{program_table}
+use Rattle.checks.specs.Sizes.{bits_fault, shift_fault, bound_fault, cells_at, sizes_d, program_sizes, sizes_e, sizes_l, sizes_c, sizes_p, sizes_s, sizes_b, sizes_a}
 use Rattle.checks.specs.Rules.{RangedE, RangedL, RangedC, RangedP, RangedS, RangedB, RangedA}
-use Rattle.checks.proofs.Narrowing.{also_none, unless_none}
+use Rattle.checks.proofs.Narrowing.{least_none, also_none, unless_none}
 
 bits_there : (a b p : ℕ) (fs : List Refusal) → also (bits_fault a b p) fs ≡ [] → (is_field a b ≡ true) × (fs ≡ [])
 bits_there a b p fs h =
@@ -114,3 +116,14 @@ mutual
       let x = there_b b (sizes_a a fs) h in
       let y = there_a a fs x.1 in
       ((x.0, y.0), y.1)
+
+rest_d : (t : Table) (ds : List Decl) (fs : List Refusal) → sizes_d t ds fs ≡ [] → fs ≡ []
+rest_d t [] fs h = h
+rest_d t (simple n k p ∷ ds) fs h = rest_d t ds fs (also_none (cells_at t n p) _ h).1
+rest_d t (array n k l u p q ∷ ds) fs h = rest_d t ds fs (also_none (bound_fault l q) _ (also_none (cells_at t n p) _ h).1).1
+
+pub ranged_program : (p : Program) → least (program_sizes p) ≡ None → RangedB p.body
+unfolding program_sizes
+ranged_program p h =
+    let e = least_none (program_sizes p) h in
+    (there_b p.body [] (rest_d (program_table p) p.decls _ e)).0

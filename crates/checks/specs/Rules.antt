@@ -1,16 +1,10 @@
 -- The rules that a source keeps: what each form asks of the names, the types and the numbers in it.
-use Rattle.std.specs.Prelude.{◌≡◌, ℕ, ◌≤◌, true, List, [], ◌∷◌, length, Some}
+use Rattle.std.specs.Prelude.{◌≡◌, ℕ, ◌≤◌, true, List, Some}
 use Rattle.arith.specs.Fields.{is_field}
-use Rattle.text.specs.declared.token.Kind.{Kind}
-use Rattle.text.specs.declared.token.Kind.TheVariants.{Integer, Logical}
-use Rattle.syntax.specs.declared.node.Operator.{Operator}
-use Rattle.syntax.specs.declared.node.Operator.TheVariants.{Times, Divide, Mod, Plus, Minus, Equal, Unequal, Less, AtMost, Greater, AtLeast, Land, Xor, Lor}
-use Rattle.trees.specs.Trees.{Expr, number, load, index, binary, negate, lnot, convert, field, shift, Clause, test, and, Cond, only, or, Step, absent, by, Stmt, assign, assign_at, deposit, deposit_at, when, either, choose, while, repeat, count, Body, end, then, Arms, last, arm, Decl, simple, array, Program}
+use Rattle.trees.specs.Trees.{Expr, number, load, index, binary, negate, lnot, convert, field, shift, Clause, test, and, Cond, only, or, Step, absent, by, Stmt, assign, assign_at, deposit, deposit_at, when, either, choose, while, repeat, count, Body, end, then, Arms, last, arm}
 use Rattle.checks.specs.declared.entry.Sort.{Sort}
 use Rattle.checks.specs.declared.entry.Sort.TheVariants as sort
-use Rattle.checks.specs.Tables.{Row, Table, look, row_of}
-use Rattle.checks.specs.Names.{program_table}
-use Rattle.checks.specs.Types.{kind_e}
+use Rattle.checks.specs.Tables.{Row, Table, look}
 
 -- Names. The name is declared, as a simple variable or as an array.
 pub record Declared (t : Table) (n : List ℕ) (s : Sort) : Type 0 where
