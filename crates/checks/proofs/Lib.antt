@@ -9,3 +9,6 @@ pub mod Laying
 pub mod Narrowing
 pub mod Judging
 pub mod Counting
+pub mod NameRules
+pub mod SizeRules
+pub mod NamedCells

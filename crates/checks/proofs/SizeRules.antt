@@ -1,0 +1,129 @@
+-- The stage of sizes finds no fault exactly where the sizes are in order. Assumes nothing.
+use Rattle.std.proofs.Common.{◌≡◌, ℕ, ◌≤◌, true, leb, List, [], ◌∷◌, None}
+use Rattle.std.proofs.lemmas.Bool.{leb-true}
+use Rattle.words.specs.declared.refusal.Refusal.{Refusal}
+use Rattle.arith.specs.Fields.{is_field}
+use Rattle.trees.specs.Trees.{Expr, number, load, index, binary, negate, lnot, convert, field, shift, Clause, test, and, Cond, only, or, Step, absent, by, Stmt, assign, assign_at, deposit, deposit_at, when, either, choose, while, repeat, count, Body, end, then, Arms, last, arm, Decl, simple, array, Program}
+use Rattle.checks.specs.Faults.{also, least}
+use Rattle.checks.specs.Tables.{Table}
+use Rattle.checks.specs.Names.{program_table}
+use Rattle.checks.specs.Sizes.{bits_fault, shift_fault, bound_fault, cells_at, sizes_d, program_sizes, sizes_e, sizes_l, sizes_c, sizes_p, sizes_s, sizes_b, sizes_a}
+use Rattle.checks.specs.Rules.{RangedE, RangedL, RangedC, RangedP, RangedS, RangedB, RangedA}
+use Rattle.checks.proofs.Narrowing.{least_none, also_none, unless_none}
+
+bits_there : (a b p : ℕ) (fs : List Refusal) → also (bits_fault a b p) fs ≡ [] → (is_field a b ≡ true) × (fs ≡ [])
+bits_there a b p fs h =
+    let x = also_none (bits_fault a b p) fs h in
+    (unless_none (is_field a b) 12 p x.0, x.1)
+
+shift_there : (c p : ℕ) (fs : List Refusal) → also (shift_fault c p) fs ≡ [] → (c ≤ 15) × (fs ≡ [])
+shift_there c p fs h =
+    let x = also_none (shift_fault c p) fs h in
+    (leb-true c 15 (unless_none (leb c 15) 12 p x.0), x.1)
+
+there_e : (e : Expr) (fs : List Refusal) → sizes_e e fs ≡ [] → RangedE e × (fs ≡ [])
+there_e (number v k) fs h = (tt, h)
+there_e (load n p) fs h = (tt, h)
+there_e (index n p q e) fs h = there_e e fs h
+there_e (binary o p a b) fs h =
+    let x = there_e a (sizes_e b fs) h in
+    let y = there_e b fs x.1 in
+    ((x.0, y.0), y.1)
+there_e (negate p a) fs h = there_e a fs h
+there_e (lnot p a) fs h = there_e a fs h
+there_e (convert k a) fs h = there_e a fs h
+there_e (field a b p e) fs h =
+    let x = there_e e (also (bits_fault a b p) fs) h in
+    let y = bits_there a b p fs x.1 in
+    ((y.0, x.0), y.1)
+there_e (shift s c p e) fs h =
+    let x = there_e e (also (shift_fault c p) fs) h in
+    let y = shift_there c p fs x.1 in
+    ((y.0, x.0), y.1)
+
+there_l : (c : Clause) (fs : List Refusal) → sizes_l c fs ≡ [] → RangedL c × (fs ≡ [])
+there_l (test p e) fs h = there_e e fs h
+there_l (and p e c) fs h =
+    let x = there_e e (sizes_l c fs) h in
+    let y = there_l c fs x.1 in
+    ((x.0, y.0), y.1)
+
+there_c : (c : Cond) (fs : List Refusal) → sizes_c c fs ≡ [] → RangedC c × (fs ≡ [])
+there_c (only c) fs h = there_l c fs h
+there_c (or c d) fs h =
+    let x = there_l c (sizes_c d fs) h in
+    let y = there_c d fs x.1 in
+    ((x.0, y.0), y.1)
+
+there_p : (s : Step) (fs : List Refusal) → sizes_p s fs ≡ [] → RangedP s × (fs ≡ [])
+there_p absent fs h = (tt, h)
+there_p (by e) fs h = there_e e fs h
+
+mutual
+  there_s : (s : Stmt) (fs : List Refusal) → sizes_s s fs ≡ [] → RangedS s × (fs ≡ [])
+  there_s (assign n p q e) fs h = there_e e fs h
+  there_s (assign_at n p o i q e) fs h =
+      let x = there_e i (sizes_e e fs) h in
+      let y = there_e e fs x.1 in
+      ((x.0, y.0), y.1)
+  there_s (deposit n p a b f q e) fs h =
+      let x = there_e e (also (bits_fault a b f) fs) h in
+      let y = bits_there a b f fs x.1 in
+      ((y.0, x.0), y.1)
+  there_s (deposit_at n p o i a b f q e) fs h =
+      let x = there_e i (sizes_e e (also (bits_fault a b f) fs)) h in
+      let y = there_e e (also (bits_fault a b f) fs) x.1 in
+      let z = bits_there a b f fs y.1 in
+      ((z.0, x.0, y.0), z.1)
+  there_s (when c b) fs h =
+      let x = there_c c (sizes_b b fs) h in
+      let y = there_b b fs x.1 in
+      ((x.0, y.0), y.1)
+  there_s (either c b d) fs h =
+      let x = there_c c (sizes_b b (sizes_b d fs)) h in
+      let y = there_b b (sizes_b d fs) x.1 in
+      let z = there_b d fs y.1 in
+      ((x.0, y.0, z.0), z.1)
+  there_s (choose p e a) fs h =
+      let x = there_e e (sizes_a a fs) h in
+      let y = there_a a fs x.1 in
+      ((x.0, y.0), y.1)
+  there_s (while c b) fs h =
+      let x = there_c c (sizes_b b fs) h in
+      let y = there_b b fs x.1 in
+      ((x.0, y.0), y.1)
+  there_s (repeat b c) fs h =
+      let x = there_b b (sizes_c c fs) h in
+      let y = there_c c fs x.1 in
+      ((x.0, y.0), y.1)
+  there_s (count n p f e s l b) fs h =
+      let x = there_e e (sizes_p s (sizes_e l (sizes_b b fs))) h in
+      let y = there_p s (sizes_e l (sizes_b b fs)) x.1 in
+      let z = there_e l (sizes_b b fs) y.1 in
+      let w = there_b b fs z.1 in
+      ((x.0, y.0, z.0, w.0), w.1)
+
+  pub there_b : (b : Body) (fs : List Refusal) → sizes_b b fs ≡ [] → RangedB b × (fs ≡ [])
+  there_b end fs h = (tt, h)
+  there_b (then s b) fs h =
+      let x = there_s s (sizes_b b fs) h in
+      let y = there_b b fs x.1 in
+      ((x.0, y.0), y.1)
+
+  there_a : (a : Arms) (fs : List Refusal) → sizes_a a fs ≡ [] → RangedA a × (fs ≡ [])
+  there_a (last b) fs h = there_b b fs h
+  there_a (arm b a) fs h =
+      let x = there_b b (sizes_a a fs) h in
+      let y = there_a a fs x.1 in
+      ((x.0, y.0), y.1)
+
+rest_d : (t : Table) (ds : List Decl) (fs : List Refusal) → sizes_d t ds fs ≡ [] → fs ≡ []
+rest_d t [] fs h = h
+rest_d t (simple n k p ∷ ds) fs h = rest_d t ds fs (also_none (cells_at t n p) _ h).1
+rest_d t (array n k l u p q ∷ ds) fs h = rest_d t ds fs (also_none (bound_fault l q) _ (also_none (cells_at t n p) _ h).1).1
+
+pub ranged_program : (p : Program) → least (program_sizes p) ≡ None → RangedB p.body
+unfolding program_sizes
+ranged_program p h =
+    let e = least_none (program_sizes p) h in
+    (there_b p.body [] (rest_d (program_table p) p.decls _ e)).0
