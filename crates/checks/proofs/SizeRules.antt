@@ -1,25 +1,27 @@
 -- The stage of sizes finds no fault exactly where the sizes are in order. Assumes nothing.
-use Rattle.std.proofs.Common.{◌≡◌, ℕ, ◌≤◌, true, leb, List, [], ◌∷◌, None}
-use Rattle.std.proofs.lemmas.Bool.{leb-true}
+use Rattle.std.proofs.Common.{◌≡◌, ℕ, ◌+◌, ◌≤◌, Bool, true, leb, eqb, List, [], ◌∷◌, None, sym, refl, ap, ◌∙◌, subst, arith}
+use Rattle.std.proofs.lemmas.Bool.{leb-true, le-leb, eqb-true, eq-eqb}
 use Rattle.words.specs.declared.refusal.Refusal.{Refusal}
 use Rattle.arith.specs.Fields.{is_field}
 use Rattle.trees.specs.Trees.{Expr, number, load, index, binary, negate, lnot, convert, field, shift, Clause, test, and, Cond, only, or, Step, absent, by, Stmt, assign, assign_at, deposit, deposit_at, when, either, choose, while, repeat, count, Body, end, then, Arms, last, arm, Decl, simple, array, Program}
+use Rattle.trees.specs.Lists.{list}
 use Rattle.checks.specs.Faults.{also, least}
-use Rattle.checks.specs.Tables.{Table}
-use Rattle.checks.specs.Names.{program_table}
-use Rattle.checks.specs.Sizes.{bits_fault, shift_fault, bound_fault, cells_at, sizes_d, program_sizes, sizes_e, sizes_l, sizes_c, sizes_p, sizes_s, sizes_b, sizes_a}
-use Rattle.checks.specs.Rules.{RangedE, RangedL, RangedC, RangedP, RangedS, RangedB, RangedA}
-use Rattle.checks.proofs.Narrowing.{least_none, also_none, unless_none}
+use Rattle.checks.specs.Tables.{Row, Table, look, row_of, empty}
+use Rattle.checks.specs.Names.{table_from, program_table}
+use Rattle.checks.specs.Sizes.{bits_fault, shift_fault, bound_fault, cells_at, size_faults, sizes_d, sizes_e, sizes_l, sizes_c, sizes_p, sizes_s, sizes_b, sizes_a, program_sizes}
+use Rattle.checks.specs.Rules.{RangedE, RangedL, RangedC, RangedP, RangedS, RangedB, RangedA, Lows, Ranged}
+use Rattle.checks.proofs.Narrowing.{least_none, also_none, total_list}
+use Rattle.checks.proofs.Faultless.{tested, untold, none_least}
+use Rattle.checks.proofs.OnNames.{table_program}
+use Rattle.checks.proofs.OnSizes.{sizes_program}
 
 bits_there : (a b p : ℕ) (fs : List Refusal) → also (bits_fault a b p) fs ≡ [] → (is_field a b ≡ true) × (fs ≡ [])
-bits_there a b p fs h =
-    let x = also_none (bits_fault a b p) fs h in
-    (unless_none (is_field a b) 12 p x.0, x.1)
+bits_there a b p fs h = tested (is_field a b) 12 p fs h
 
 shift_there : (c p : ℕ) (fs : List Refusal) → also (shift_fault c p) fs ≡ [] → (c ≤ 15) × (fs ≡ [])
 shift_there c p fs h =
-    let x = also_none (shift_fault c p) fs h in
-    (leb-true c 15 (unless_none (leb c 15) 12 p x.0), x.1)
+    let x = tested (leb c 15) 12 p fs h in
+    (leb-true c 15 x.0, x.1)
 
 there_e : (e : Expr) (fs : List Refusal) → sizes_e e fs ≡ [] → RangedE e × (fs ≡ [])
 there_e (number v k) fs h = (tt, h)
@@ -103,7 +105,7 @@ mutual
       let w = there_b b fs z.1 in
       ((x.0, y.0, z.0, w.0), w.1)
 
-  pub there_b : (b : Body) (fs : List Refusal) → sizes_b b fs ≡ [] → RangedB b × (fs ≡ [])
+  there_b : (b : Body) (fs : List Refusal) → sizes_b b fs ≡ [] → RangedB b × (fs ≡ [])
   there_b end fs h = (tt, h)
   there_b (then s b) fs h =
       let x = there_s s (sizes_b b fs) h in
@@ -117,13 +119,28 @@ mutual
       let y = there_a a fs x.1 in
       ((x.0, y.0), y.1)
 
-rest_d : (t : Table) (ds : List Decl) (fs : List Refusal) → sizes_d t ds fs ≡ [] → fs ≡ []
-rest_d t [] fs h = h
-rest_d t (simple n k p ∷ ds) fs h = rest_d t ds fs (also_none (cells_at t n p) _ h).1
-rest_d t (array n k l u p q ∷ ds) fs h = rest_d t ds fs (also_none (bound_fault l q) _ (also_none (cells_at t n p) _ h).1).1
+bound_there : (l q : ℕ) (fs : List Refusal) → also (bound_fault l q) fs ≡ [] → (l ≡ 0) × (fs ≡ [])
+bound_there l q fs h =
+    let x = tested (eqb l 0) 12 q fs h in
+    (eqb-true l 0 x.0, x.1)
 
-pub ranged_program : (p : Program) → least (program_sizes p) ≡ None → RangedB p.body
+there_d : (t : Table) (ds : List Decl) (fs : List Refusal) → sizes_d t ds fs ≡ [] → Lows ds × (fs ≡ [])
+there_d t [] fs h = (tt, h)
+there_d t (simple n k p ∷ ds) fs h = there_d t ds fs (also_none (cells_at t n p) (sizes_d t ds fs) h).1
+there_d t (array n k l u p q ∷ ds) fs h =
+    let x = bound_there l q (sizes_d t ds fs) (also_none (cells_at t n p) (also (bound_fault l q) (sizes_d t ds fs)) h).1 in
+    let y = there_d t ds fs x.1 in
+    ((x.0, y.0), y.1)
+
+-- the list of the program tells that its cells are few
+cells_there : (p : Program) → program_sizes p ≡ [] → (program_table p).cells ≤ 4096
+cells_there p h =
+    let e : size_faults (table_from empty (list p)) (list p) ≡ [] = ap (λ t. size_faults t (list p)) (table_program p) ∙ sizes_program p ∙ h in
+    subst (λ t. t.cells ≤ 4096) (table_program p) (total_list (list p) e)
+
+pub ranged_there : (p : Program) → least (program_sizes p) ≡ None → Ranged p
 unfolding program_sizes
-ranged_program p h =
+ranged_there p h =
     let e = least_none (program_sizes p) h in
-    (there_b p.body [] (rest_d (program_table p) p.decls _ e)).0
+    let x = there_d (program_table p) p.decls (sizes_b p.body []) e in
+    record { lows = x.0; cells = cells_there p e; body = (there_b p.body [] x.1).0 }
