@@ -1,5 +1,5 @@
 -- The stage of types finds no fault exactly where the types are in order. Assumes nothing.
-use Rattle.std.proofs.Common.{◌≡◌, ℕ, Bool, true, false, List, [], ◌∷◌, None, refl, sym, ap, ◌∙◌, arith}
+use Rattle.std.proofs.Common.{◌≡◌, ℕ, Bool, true, false, ◌&&◌, List, [], ◌∷◌, None, refl, sym, ap, ◌∙◌, arith}
 use Rattle.std.proofs.lemmas.Bool.{and_from, and_parts}
 use Rattle.words.specs.declared.refusal.Refusal.{Refusal}
 use Rattle.text.specs.declared.token.Kind.{Kind}
@@ -74,6 +74,16 @@ starting_there : (v k : Kind) (p : ℕ) (fs : List Refusal) → also (starting v
 starting_there v k p fs h =
     let y = and_parts (is_kind Integer v) (is_kind Integer k) (tested _ 11 p fs h).0 in
     (same_kind Integer v y.0, same_kind Integer k y.1, (tested _ 11 p fs h).1)
+
+wanted_back : (w k : Kind) (p : ℕ) (fs : List Refusal) → k ≡ w → also (wanted w k p) fs ≡ fs
+wanted_back w k p fs e = untold (is_kind w k) 11 p fs (kind_same w k e)
+
+sides_back : (o : Operator) (a b : Kind) (p : ℕ) (fs : List Refusal) → a ≡ b → Suits o a → also (sides o a b p) fs ≡ fs
+sides_back o a b p fs e f = untold (agree o a b) 11 p fs (and_from (is_kind a b) (takes_kind o a) (kind_same a b (sym e)) (suits_back o a f))
+
+starting_back : (v k : Kind) (p : ℕ) (fs : List Refusal) → v ≡ Integer → k ≡ Integer → also (starting v k p) fs ≡ fs
+starting_back v k p fs e f =
+    untold (is_kind Integer v && is_kind Integer k) 11 p fs (and_from (is_kind Integer v) (is_kind Integer k) (kind_same Integer v e) (kind_same Integer k f))
 
 module _ (t : Table) where
   there_e : (e : Expr) (fs : List Refusal) → types_e t e fs ≡ [] → TypedE t e × (fs ≡ [])
@@ -181,6 +191,62 @@ module _ (t : Table) where
         let y = there_a a fs x.1 in
         ((x.0, y.0), y.1)
 
+  back_e : (e : Expr) (fs : List Refusal) → TypedE t e → types_e t e fs ≡ fs
+  back_e (number v k) fs d = refl
+  back_e (load n p) fs d = refl
+  back_e (index n p q e) fs d = back_e e _ d.1 ∙ wanted_back Integer (kind_e t e) q fs d.0
+  back_e (binary o p a b) fs d = back_e a _ d.2 ∙ back_e b _ d.3 ∙ sides_back o (kind_e t a) (kind_e t b) p fs d.0 d.1
+  back_e (negate p a) fs d = back_e a _ d.1 ∙ wanted_back Integer (kind_e t a) p fs d.0
+  back_e (lnot p a) fs d = back_e a _ d.1 ∙ wanted_back Logical (kind_e t a) p fs d.0
+  back_e (convert k a) fs d = back_e a fs d
+  back_e (field a b p e) fs d = back_e e fs d
+  back_e (shift s c p e) fs d = back_e e fs d
+
+  back_k : (w : Kind) (p : ℕ) (e : Expr) (fs : List Refusal) → OfKind t w e → types_k t w p e fs ≡ fs
+  back_k w p e fs d = back_e e _ d.1 ∙ wanted_back w (kind_e t e) p fs d.0
+
+  back_l : (c : Clause) (fs : List Refusal) → TypedL t c → types_l t c fs ≡ fs
+  back_l (test p e) fs d = back_k Logical p e fs d
+  back_l (and p e c) fs d = back_k Logical p e _ d.0 ∙ back_l c fs d.1
+
+  back_c : (c : Cond) (fs : List Refusal) → TypedC t c → types_c t c fs ≡ fs
+  back_c (only c) fs d = back_l c fs d
+  back_c (or c e) fs d = back_l c _ d.0 ∙ back_c e fs d.1
+
+  back_p : (f : ℕ) (s : Step) (fs : List Refusal) → TypedP t s → types_p t f s fs ≡ fs
+  back_p f absent fs d = refl
+  back_p f (by e) fs d = back_k Integer f e fs d
+
+  mutual
+    back_s : (s : Stmt) (fs : List Refusal) → TypedS t s → types_s t s fs ≡ fs
+    back_s (assign n p q e) fs d = back_k (row_of t n).kind q e fs d
+    back_s (assign_at n p o i q e) fs d = back_k Integer o i _ d.0 ∙ back_k (row_of t n).kind q e fs d.1
+    back_s (deposit n p a b f q e) fs d = back_k (row_of t n).kind q e fs d
+    back_s (deposit_at n p o i a b f q e) fs d = back_k Integer o i _ d.0 ∙ back_k (row_of t n).kind q e fs d.1
+    back_s (when c b) fs d = back_c c _ d.0 ∙ back_b b fs d.1
+    back_s (either c b e) fs d = back_c c _ d.0 ∙ back_b b _ d.1 ∙ back_b e fs d.2
+    back_s (choose p e a) fs d = back_k Integer p e _ d.0 ∙ back_a a fs d.1
+    back_s (while c b) fs d = back_c c _ d.0 ∙ back_b b fs d.1
+    back_s (repeat b c) fs d = back_b b _ d.0 ∙ back_c c fs d.1
+    back_s (count n p f e s l b) fs d =
+        back_e e _ d.1.1
+        ∙ starting_back (row_of t n).kind (kind_e t e) f _ d.0 d.1.0
+        ∙ back_p f s _ d.2
+        ∙ back_k Integer f l _ d.3
+        ∙ back_b b fs d.4
+
+    back_b : (b : Body) (fs : List Refusal) → TypedB t b → types_b t b fs ≡ fs
+    back_b end fs d = refl
+    back_b (then s b) fs d = back_s s _ d.0 ∙ back_b b fs d.1
+
+    back_a : (a : Arms) (fs : List Refusal) → TypedA t a → types_a t a fs ≡ fs
+    back_a (last b) fs d = back_b b fs d
+    back_a (arm b a) fs d = back_b b _ d.0 ∙ back_a a fs d.1
+
 pub typed_there : (p : Program) → least (program_types p) ≡ None → Typed p
 unfolding program_types
 typed_there p h = (there_b (program_table p) p.body [] (least_none (program_types p) h)).0
+
+pub typed_back : (p : Program) → Typed p → least (program_types p) ≡ None
+unfolding program_types
+typed_back p d = none_least (program_types p) (back_b (program_table p) p.body [] d)
