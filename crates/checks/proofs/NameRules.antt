@@ -1,5 +1,6 @@
 -- The stage of names finds no fault exactly where the names are in order. Assumes nothing.
-use Rattle.std.proofs.Common.{◌≡◌, ℕ, ◌+◌, ◌<◌, ◌≤◌, Bool, true, false, ltb, List, [], ◌∷◌, ◌++◌, length, Some, None, Option, sym, refl, ap, ◌∙◌, ⊎_elim, arith, length-append}
+use Rattle.std.proofs.Common.{◌≡◌, ℕ, ◌+◌, ◌<◌, ◌≤◌, Bool, true, false, ltb, List, [], ◌∷◌, ◌++◌, length, Some, None, Option, sym, refl, ap, ◌∙◌, ⊎_elim, arith, length-append, append_assoc}
+use Rattle.std.proofs.lemmas.List.{append-nil}
 use Rattle.std.proofs.lemmas.Bool.{cases_Bool, ltb-true}
 use Rattle.std.specs.Str.{bytes_eq}
 use Rattle.words.specs.declared.refusal.Refusal.{Refusal}
@@ -9,10 +10,10 @@ use Rattle.checks.specs.declared.entry.Sort.{Sort}
 use Rattle.checks.specs.declared.entry.Sort.TheVariants as sort
 use Rattle.checks.specs.Faults.{at, also, unless, least}
 use Rattle.checks.specs.Tables.{Row, Table, look, empty, is_known, extended, declare}
-use Rattle.checks.specs.Names.{is_sort, used_as, used, entering, names_d, program_table, program_names, names_e, names_l, names_c, names_p, names_s, names_b, names_a}
-use Rattle.checks.specs.Rules.{Declared, NamedE, NamedL, NamedC, NamedP, NamedS, NamedB, NamedA, called, Unused, Once, Named}
+use Rattle.checks.specs.Names.{is_sort, used_as, used, entering, declared, names_d, program_table, program_names, names_e, names_l, names_c, names_p, names_s, names_b, names_a}
+use Rattle.checks.specs.Rules.{Declared, NamedE, NamedL, NamedC, NamedP, NamedS, NamedB, NamedA, called, Unused, Once, Named, widths, rows_from, laid}
 use Rattle.checks.proofs.Lookups.{same, other}
-use Rattle.checks.proofs.Entering.{room}
+use Rattle.checks.proofs.Entering.{room, table_of}
 use Rattle.checks.proofs.Laying.{some_none, look_push, not_known}
 use Rattle.checks.proofs.Narrowing.{least_none, also_none, unless_none}
 use Rattle.checks.proofs.Faultless.{none_least}
@@ -286,3 +287,24 @@ unfolding program_names
 named_back p d =
     none_least (program_names p)
     (back_d p.decls empty (names_b (program_table p) p.body []) (apart_none p.decls) d.once (omega (arith, d.few)) ∙ back_b (program_table p) p.body [] d.body)
+
+-- the rows of declarations in order, behind those of the table
+laid_d : (ds : List Decl) (t : Table) → Apart t.rows ds → Once ds → length t.rows + length ds ≤ 64 → declared t ds ≡ record { rows = t.rows ++ rows_from t.cells ds; cells = t.cells + widths ds }
+laid_d [] t a o l = table_of t.rows (t.rows ++ []) t.cells (t.cells + 0) (sym (append-nil t.rows)) (omega arith)
+laid_d (simple n k p ∷ ds) t a o l =
+    let m = one_more t n k sort.Simple 1 p in
+    let r : Row = record { name = n; kind = k; sort = sort.Simple; cell = t.cells; cells = 1 } in
+    ap (λ u. declared u ds) (sym (longer t n k sort.Simple 1 p a.0 (omega (arith, l))))
+    ∙ laid_d ds (extended t n k sort.Simple 1) (apart_push t.rows r ds a.1 o.0) o.1 (omega (arith, m, l))
+    ∙ table_of _ _ _ _ (append_assoc t.rows (r ∷ []) (rows_from (t.cells + 1) ds)) (omega arith)
+laid_d (array n k u h p q ∷ ds) t a o l =
+    let m = one_more t n k sort.Array (h + 1) p in
+    let r : Row = record { name = n; kind = k; sort = sort.Array; cell = t.cells; cells = h + 1 } in
+    ap (λ u. declared u ds) (sym (longer t n k sort.Array (h + 1) p a.0 (omega (arith, l))))
+    ∙ laid_d ds (extended t n k sort.Array (h + 1)) (apart_push t.rows r ds a.1 o.0) o.1 (omega (arith, m, l))
+    ∙ table_of _ _ _ _ (append_assoc t.rows (r ∷ []) (rows_from (t.cells + (h + 1)) ds)) (omega arith)
+
+pub laid_program : (p : Program) → Named p → program_table p ≡ laid p.decls
+unfolding program_table
+laid_program p d =
+    laid_d p.decls empty (apart_none p.decls) d.once (omega (arith, d.few)) ∙ table_of _ _ _ _ refl (omega arith)

@@ -1,5 +1,6 @@
 -- The rules that a source keeps: what each form asks of its names, its types and its numbers.
-use Rattle.std.specs.Prelude.{◌≡◌, ℕ, ◌≤◌, true, List, [], ◌∷◌, length, Some}
+use Rattle.std.specs.Prelude.{◌≡◌, ℕ, ◌+◌, ◌≤◌, true, List, [], ◌∷◌, length, Some, None}
+use Rattle.words.specs.declared.refusal.Refusal.{Refusal}
 use Rattle.arith.specs.Fields.{is_field}
 use Rattle.text.specs.declared.token.Kind.{Kind}
 use Rattle.text.specs.declared.token.Kind.TheVariants.{Integer, Logical}
@@ -9,8 +10,10 @@ use Rattle.trees.specs.Trees.{Expr, number, load, index, binary, negate, lnot, c
 use Rattle.checks.specs.declared.entry.Sort.{Sort}
 use Rattle.checks.specs.declared.entry.Sort.TheVariants as sort
 use Rattle.checks.specs.Tables.{Row, Table, look, row_of}
-use Rattle.checks.specs.Names.{program_table}
-use Rattle.checks.specs.Types.{kind_e}
+use Rattle.checks.specs.Faults.{least}
+use Rattle.checks.specs.Names.{program_table, program_names}
+use Rattle.checks.specs.Types.{kind_e, program_types}
+use Rattle.checks.specs.Sizes.{program_sizes}
 
 -- Names. This one is declared, as a simple variable or as an array.
 pub record Declared (t : Table) (n : List ℕ) (s : Sort) : Type 0 where
@@ -213,3 +216,35 @@ pub record Right (p : Program) : Type 0 where
   pub names : Named p
   pub types : Typed p
   pub sizes : Ranged p
+
+-- the cells of a declaration: an array has one more than its high bound
+abbrev pub width : Decl → ℕ
+width (simple n k p) = 1
+width (array n k l h p q) = h + 1
+
+abbrev pub widths : List Decl → ℕ
+widths [] = 0
+widths (d ∷ ds) = width d + widths ds
+
+-- the rows of declarations whose cells lie one after another from c on
+abbrev pub rows_from : ℕ → List Decl → List Row
+rows_from c [] = []
+rows_from c (simple n k p ∷ ds) = record { name = n; kind = k; sort = sort.Simple; cell = c; cells = 1 } ∷ rows_from (c + 1) ds
+rows_from c (array n k l h p q ∷ ds) = record { name = n; kind = k; sort = sort.Array; cell = c; cells = h + 1 } ∷ rows_from (c + (h + 1)) ds
+
+abbrev pub laid : List Decl → Table
+laid ds = record { rows = rows_from 0 ds; cells = widths ds }
+
+-- there is no fault at all
+abbrev pub Faultless : List Refusal → Type 0
+Faultless fs = least fs ≡ None
+
+-- A source is admitted exactly where it keeps the rules, and by each stage exactly where it keeps those of the stage.
+pub record AdmitsExactly : Type 0 where
+  pub keeps : (p : Program) → Faultless (program_names p) × Faultless (program_types p) × Faultless (program_sizes p) → Right p
+  pub admits : (p : Program) → Right p → Faultless (program_names p) × Faultless (program_types p) × Faultless (program_sizes p)
+  pub names : (p : Program) → (Faultless (program_names p) → Named p) × (Named p → Faultless (program_names p))
+  pub types : (p : Program) → (Faultless (program_types p) → Typed p) × (Typed p → Faultless (program_types p))
+  pub sizes : (p : Program) → (Faultless (program_sizes p) → Ranged p) × (Ranged p → Faultless (program_sizes p))
+  -- the table by which names, types and sizes are judged, where the names are in order
+  pub table : (p : Program) → Named p → program_table p ≡ laid p.decls
