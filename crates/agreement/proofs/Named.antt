@@ -10,8 +10,8 @@ use Rattle.checks.specs.Writing.{resolve_e, resolve_l, resolve_c, resolve_p, res
 use Rattle.checks.specs.Rules.{NamedE, NamedL, NamedC, NamedP, NamedS, NamedB, NamedA, RangedE, RangedL, RangedC, RangedP, RangedS, RangedB, RangedA}
 use Rattle.checks.proofs.Laying.{Good}
 use Rattle.checks.proofs.NamedCells.{table_good, simple_cell, array_cells}
-use Rattle.checks.proofs.NameRules.{named_program}
-use Rattle.checks.proofs.SizeRules.{ranged_program}
+use Rattle.checks.proofs.NameRules.{named_there}
+use Rattle.checks.proofs.SizeRules.{ranged_there}
 
 module _ (t : Table) (g : Good t) where
   within_e : (e : Expr) → NamedE t e → RangedE e → WithinE t.cells (resolve_e t e)
@@ -61,4 +61,4 @@ module _ (t : Table) (g : Good t) where
 
 pub admitted_within : (p : Program) → least (program_names p) ≡ None → least (program_sizes p) ≡ None → Within (resolve p) (program_table p).cells
 unfolding resolve
-admitted_within p n s = within_b (program_table p) (table_good p) p.body (named_program p n) (ranged_program p s)
+admitted_within p n s = within_b (program_table p) (table_good p) p.body (named_there p n).body (ranged_there p s).body

@@ -12,3 +12,5 @@ pub mod Counting
 pub mod NameRules
 pub mod SizeRules
 pub mod NamedCells
+pub mod Faultless
+pub mod TypeRules
