@@ -1,5 +1,5 @@
 -- Sources and what they are compiled to, numbers and images: a table, and the one statement that it holds.
-use Rattle.std.specs.Prelude.{◌≡◌, ℕ, List, [], ◌∷◌, ◌++◌, length, codes, Ok, Result}
+use Rattle.std.specs.Prelude.{◌≡◌, ℕ, List, [], ◌∷◌, ◌++◌, length, replicate, codes, Ok, Result}
 use Rattle.words.specs.declared.instr.Instr.{Instr}
 use Rattle.words.specs.declared.refusal.Refusal.{Refusal}
 use Rattle.words.specs.Refusals.{refuse, then}
@@ -83,6 +83,7 @@ rows =
     source (codes "BEGIN INTEGER N; FOR N := 1 STEP 2 UNTIL 9 DO N := N; END.") 10
     (gives 1 3 (LIT 1 ∷ STOR 0 ∷ LIT 2 ∷ LIT 9 ∷ FOR 0 8 ∷ LOAD 0 ∷ STOR 0 ∷ NEXT 0 4 ∷ DROP 2 ∷ HALT ∷ [])) ∷
     -- refusals, from the text to the sizes
+    source (replicate 32769 32) 9 (refuse 1 32768) ∷
     source (codes "BEGIN ? END.") 9 (refuse 2 6) ∷
     source (codes "BEGIN INTEGER N; N := 32768; END.") 9 (refuse 3 22) ∷
     source (codes "BEGIN << END.") 9 (refuse 4 6) ∷
