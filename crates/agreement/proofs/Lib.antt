@@ -9,3 +9,4 @@ pub mod Whole
 pub mod Stored
 pub mod Calls
 pub mod Examples
+pub mod Named
