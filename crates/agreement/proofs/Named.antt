@@ -1,64 +1,145 @@
--- Where names and sizes are in order, every cell that the typed tree names is one of the source's. Assumes nothing.
-use Rattle.std.proofs.Common.{◌≡◌, None}
-use Rattle.trees.specs.Trees.{Expr, number, load, index, binary, negate, lnot, convert, field, shift, Clause, test, and, Cond, only, or, Step, absent, by, Stmt, assign, assign_at, deposit, deposit_at, when, either, choose, while, repeat, count, Body, end, then, Arms, last, arm, Program}
+-- The cells that code names are the source's. Assumes nothing.
+use Rattle.std.proofs.Common.{◌≡◌, ℕ, ◌+◌, ◌<◌, ◌≤◌, List, [], ◌∷◌, ◌++◌, subst, arith}
+use Rattle.words.specs.declared.instr.Instr.{Instr}
+use Rattle.typed.specs.Instrs.{HALT, LIT, LOAD, STOR, LDX, STX, CHK, DUP, DROP, DEP, BR, BRE, CASE, FOR, NEXT}
+use Rattle.typed.specs.Trees.{Op, add, sub, mul, div, rem, ladd, lsub, lmul, ldiv, lrem, cmp, lcmp, land, lor, lxor, Uop, neg, not, fld, shf, Expr, lit, var, pick, bin, un, Clause, test, and, Cond, only, or, Stmt, assign, fill, deposit, deposit_at, when, either, while, repeat, for, case, Body, end, then, Arms, last, arm}
+use Rattle.typed.specs.Lists.{op_instr, uop_instr}
+use Rattle.typed.specs.Code.{table, code_e, code_l, code_c, code_s, code_b, code_a, program}
 use Rattle.meaning.specs.Meaning.{WithinE, WithinL, WithinC, WithinS, Within, WithinA}
-use Rattle.checks.specs.Faults.{least}
-use Rattle.checks.specs.Tables.{Table}
-use Rattle.checks.specs.Names.{program_table, program_names}
-use Rattle.checks.specs.Sizes.{program_sizes}
-use Rattle.checks.specs.Writing.{resolve_e, resolve_l, resolve_c, resolve_p, resolve_s, resolve_b, resolve_a, resolve}
-use Rattle.checks.specs.Rules.{NamedE, NamedL, NamedC, NamedP, NamedS, NamedB, NamedA, RangedE, RangedL, RangedC, RangedP, RangedS, RangedB, RangedA}
-use Rattle.checks.proofs.Laying.{Good}
-use Rattle.checks.proofs.NamedCells.{table_good, simple_cell, array_cells}
-use Rattle.checks.proofs.NameRules.{named_there}
-use Rattle.checks.proofs.SizeRules.{ranged_there}
+use Rattle.agreement.specs.Named.{Names, Celled}
 
-module _ (t : Table) (g : Good t) where
-  within_e : (e : Expr) → NamedE t e → RangedE e → WithinE t.cells (resolve_e t e)
-  within_e (number v k) d r = tt
-  within_e (load n p) d r = simple_cell t g n d
-  within_e (index n p q e) d r = ((array_cells t g n d.0).0, within_e e d.1 r)
-  within_e (binary o p a b) d r = (within_e a d.0 r.0, within_e b d.1 r.1)
-  within_e (negate p a) d r = (tt, within_e a d r)
-  within_e (lnot p a) d r = (tt, within_e a d r)
-  within_e (convert k a) d r = within_e a d r
-  within_e (field a b p e) d r = (r.0, within_e e d r.1)
-  within_e (shift s c p e) d r = (r.0, within_e e d r.1)
+module _ (n : ℕ) where
+  -- most name no cell: those of the numbers 0, 1 and 6 to 31
+  early : (i : Instr) → i.number < 2 → Names n i
+  early i l =
+      record {
+        load = λ e. absurd (omega (arith, e, l));
+        stor = λ e. absurd (omega (arith, e, l));
+        ldx = λ e. absurd (omega (arith, e, l));
+        stx = λ e. absurd (omega (arith, e, l));
+        for = λ e. absurd (omega (arith, e, l));
+        next = λ e. absurd (omega (arith, e, l));
+      }
 
-  within_l : (c : Clause) → NamedL t c → RangedL c → WithinL t.cells (resolve_l t c)
-  within_l (test p e) d r = within_e e d r
-  within_l (and p e c) d r = (within_e e d.0 r.0, within_l c d.1 r.1)
+  quiet : (i : Instr) → 5 < i.number → i.number < 32 → Names n i
+  quiet i l m =
+      record {
+        load = λ e. absurd (omega (arith, e, l));
+        stor = λ e. absurd (omega (arith, e, l));
+        ldx = λ e. absurd (omega (arith, e, l));
+        stx = λ e. absurd (omega (arith, e, l));
+        for = λ e. absurd (omega (arith, e, m));
+        next = λ e. absurd (omega (arith, e, m));
+      }
 
-  within_c : (c : Cond) → NamedC t c → RangedC c → WithinC t.cells (resolve_c t c)
-  within_c (only c) d r = within_l c d r
-  within_c (or c e) d r = (within_l c d.0 r.0, within_c e d.1 r.1)
+  one : (i : Instr) → (i.number ≡ 4 → ⊥) → (i.number ≡ 5 → ⊥) → i.a < n → Names n i
+  one i x y l = record { load = λ e. l; stor = λ e. l; ldx = λ e. absurd (x e); stx = λ e. absurd (y e); for = λ e. l; next = λ e. l }
 
-  within_p : (s : Step) → NamedP t s → RangedP s → WithinE t.cells (resolve_p t s)
-  within_p absent d r = tt
-  within_p (by e) d r = within_e e d r
+  some : (i : Instr) → 3 < i.number → i.number < 32 → i.a + i.b ≤ n → Names n i
+  some i l m k =
+      record {
+        load = λ e. absurd (omega (arith, e, l));
+        stor = λ e. absurd (omega (arith, e, l));
+        ldx = λ e. k;
+        stx = λ e. k;
+        for = λ e. absurd (omega (arith, e, m));
+        next = λ e. absurd (omega (arith, e, m));
+      }
+
+  op_quiet : (o : Op) → Names n (op_instr o)
+  op_quiet add = quiet _ (omega arith) (omega arith)
+  op_quiet sub = quiet _ (omega arith) (omega arith)
+  op_quiet mul = quiet _ (omega arith) (omega arith)
+  op_quiet div = quiet _ (omega arith) (omega arith)
+  op_quiet rem = quiet _ (omega arith) (omega arith)
+  op_quiet ladd = quiet _ (omega arith) (omega arith)
+  op_quiet lsub = quiet _ (omega arith) (omega arith)
+  op_quiet lmul = quiet _ (omega arith) (omega arith)
+  op_quiet ldiv = quiet _ (omega arith) (omega arith)
+  op_quiet lrem = quiet _ (omega arith) (omega arith)
+  op_quiet (cmp r) = quiet _ (omega arith) (omega arith)
+  op_quiet (lcmp r) = quiet _ (omega arith) (omega arith)
+  op_quiet land = quiet _ (omega arith) (omega arith)
+  op_quiet lor = quiet _ (omega arith) (omega arith)
+  op_quiet lxor = quiet _ (omega arith) (omega arith)
+
+  uop_quiet : (o : Uop) → Names n (uop_instr o)
+  uop_quiet neg = quiet _ (omega arith) (omega arith)
+  uop_quiet not = quiet _ (omega arith) (omega arith)
+  uop_quiet (fld a b) = quiet _ (omega arith) (omega arith)
+  uop_quiet (shf k c) = quiet _ (omega arith) (omega arith)
+
+  load : (c : ℕ) → c < n → Names n (LOAD c)
+  load c l = one (LOAD c) (λ e. omega (arith, e)) (λ e. omega (arith, e)) l
+
+  stor : (c : ℕ) → c < n → Names n (STOR c)
+  stor c l = one (STOR c) (λ e. omega (arith, e)) (λ e. omega (arith, e)) l
+
+  -- each of them
+  abbrev All : List Instr → Type 0
+  All [] = Unit {0}
+  All (i ∷ is) = Names n i × All is
+
+  all_e : (e : Expr) (r : List Instr) → WithinE n e → All r → All (code_e e r)
+  all_e (lit w) r h g = (early (LIT w) (omega arith), g)
+  all_e (var c) r h g = (load c h, g)
+  all_e (pick b m i) r h g = all_e i _ h.1 (some (LDX b m) (omega arith) (omega arith) h.0, g)
+  all_e (bin o x y) r h g = all_e x _ h.0 (all_e y _ h.1 (op_quiet o, g))
+  all_e (un o x) r h g = all_e x _ h.1 (uop_quiet o, g)
+
+  all_l : (c : Clause) (f : ℕ) (r : List Instr) → WithinL n c → All r → All (code_l c f r)
+  all_l (test e) f r h g = all_e e _ h (quiet (BRE f) (omega arith) (omega arith), g)
+  all_l (and e c) f r h g = all_e e _ h.0 (quiet (BRE f) (omega arith) (omega arith), all_l c f r h.1 g)
+
+  all_c : (c : Cond) (p f : ℕ) (r : List Instr) → WithinC n c → All r → All (code_c c p f r)
+  all_c (only c) p f r h g = all_l c f r h g
+  all_c (or c d) p f r h g = all_l c _ _ h.0 (quiet (BR _) (omega arith) (omega arith), all_c d _ f r h.1 g)
+
+  all_t : (a : Arms) (p : ℕ) (r : List Instr) → All r → All (table a p r)
+  all_t (last b) p r g = (quiet (BR p) (omega arith) (omega arith), g)
+  all_t (arm b a) p r g = (quiet (BR p) (omega arith) (omega arith), all_t a _ r g)
 
   mutual
-    within_s : (s : Stmt) → NamedS t s → RangedS s → WithinS (resolve_s t s) t.cells
-    within_s (assign n p q e) d r = (simple_cell t g n d.0, within_e e d.1 r)
-    within_s (assign_at n p o i q e) d r = ((array_cells t g n d.0).0, within_e i d.1 r.0, within_e e d.2 r.1)
-    within_s (deposit n p a b f q e) d r = (simple_cell t g n d.0, r.0, within_e e d.1 r.1)
-    within_s (deposit_at n p o i a b f q e) d r = ((array_cells t g n d.0).0, r.0, within_e i d.1 r.1, within_e e d.2 r.2)
-    within_s (when c b) d r = (within_c c d.0 r.0, within_b b d.1 r.1)
-    within_s (either c b x) d r = (within_c c d.0 r.0, within_b b d.1 r.1, within_b x d.2 r.2)
-    within_s (choose p e a) d r = (within_e e d.0 r.0, within_a a d.1 r.1)
-    within_s (while c b) d r = (within_c c d.0 r.0, within_b b d.1 r.1)
-    within_s (repeat b c) d r = (within_b b d.0 r.0, within_c c d.1 r.1)
-    within_s (count n p f e s l b) d r =
-        (simple_cell t g n d.0, within_e e d.1 r.0, within_p s d.2 r.1, within_e l d.3 r.2, within_b b d.4 r.3)
+    all_s : (s : Stmt) (p : ℕ) (r : List Instr) → WithinS s n → All r → All (code_s s p r)
+    all_s (assign c e) p r h g = all_e e _ h.1 (stor c h.0, g)
+    all_s (fill b m i e) p r h g =
+        all_e i _ h.1 (quiet (CHK m) (omega arith) (omega arith), all_e e _ h.2 (some (STX b m) (omega arith) (omega arith) h.0, g))
+    all_s (deposit c a b e) p r h g = (load c h.0, all_e e _ h.2 (quiet (DEP a b) (omega arith) (omega arith), (stor c h.0, g)))
+    all_s (deposit_at x m i a b e) p r h g =
+        all_e i _ h.2 (
+          quiet DUP (omega arith) (omega arith),
+          (some (LDX x m) (omega arith) (omega arith) h.0, all_e e _ h.3 (quiet (DEP a b) (omega arith) (omega arith), (some (STX x m) (omega arith) (omega arith) h.0, g))),
+        )
+    all_s (when c b) p r h g = all_c c p _ _ h.0 (all_b b _ r h.1 g)
+    all_s (either c b d) p r h g = all_c c p _ _ h.0 (all_b b _ _ h.1 (quiet (BR _) (omega arith) (omega arith), all_b d _ r h.2 g))
+    all_s (while c b) p r h g = all_c c p _ _ h.0 (all_b b _ _ h.1 (quiet (BR p) (omega arith) (omega arith), g))
+    all_s (repeat b c) p r h g = all_b b p _ h.0 (all_c c _ p r h.1 g)
+    all_s (for c e d l b) p r h g =
+        all_e e _ h.1 (
+          stor c h.0,
+          all_e d _ h.2
+              (all_e l _ h.3 (
+                one (FOR c _) (λ x. omega (arith, x)) (λ x. omega (arith, x)) h.0,
+                all_b b _ _ h.4 (one (NEXT c _) (λ x. omega (arith, x)) (λ x. omega (arith, x)) h.0, (quiet (DROP 2) (omega arith) (omega arith), g)),
+              )),
+        )
+    all_s (case e a) p r h g = all_e e _ h.0 (quiet (CASE _ _) (omega arith) (omega arith), all_t a _ _ (all_a a _ _ r h.1 g))
 
-    within_b : (b : Body) → NamedB t b → RangedB b → Within (resolve_b t b) t.cells
-    within_b end d r = tt
-    within_b (then s b) d r = (within_s s d.0 r.0, within_b b d.1 r.1)
+    all_b : (b : Body) (p : ℕ) (r : List Instr) → Within b n → All r → All (code_b b p r)
+    all_b end p r h g = g
+    all_b (then s b) p r h g = all_s s p _ h.0 (all_b b _ r h.1 g)
 
-    within_a : (a : Arms) → NamedA t a → RangedA a → WithinA (resolve_a t a) t.cells
-    within_a (last b) d r = within_b b d r
-    within_a (arm b a) d r = (within_b b d.0 r.0, within_a a d.1 r.1)
+    all_a : (a : Arms) (p x : ℕ) (r : List Instr) → WithinA a n → All r → All (code_a a p x r)
+    all_a (last b) p x r h g = all_b b p _ h (quiet (BR x) (omega arith) (omega arith), g)
+    all_a (arm b a) p x r h g = all_b b p _ h.0 (quiet (BR x) (omega arith) (omega arith), all_a a _ x r h.1 g)
 
-pub admitted_within : (p : Program) → least (program_names p) ≡ None → least (program_sizes p) ≡ None → Within (resolve p) (program_table p).cells
-unfolding resolve
-admitted_within p n s = within_b (program_table p) (table_good p) p.body (named_there p n).body (ranged_there p s).body
+  all_program : (b : Body) → Within b n → All (program b)
+  unfolding program
+  all_program b h = all_b b 0 (HALT ∷ []) h (early HALT (omega arith), tt)
+
+  at : (front rest : List Instr) (i : Instr) → All (front ++ i ∷ rest) → Names n i
+  at [] rest i g = g.0
+  at (x ∷ front) rest i g = at front rest i g.1
+
+pub celled : Celled
+celled b n h front rest i e = at n front rest i (subst (All n) e (all_program n b h))

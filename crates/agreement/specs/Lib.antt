@@ -1,3 +1,4 @@
 pub mod Agreement
 pub mod Sessions
 pub mod Examples
+pub mod Named

@@ -1,6 +1,7 @@
 // The machine keeps step with the source.
 ghost use Rattle.agreement.specs.Agreement.{Agreement};
 ghost use Rattle.agreement.specs.Examples.{Examples};
+ghost use Rattle.agreement.specs.Named.{Celled};
 ghost use Rattle.agreement.specs.Sessions.{Kept};
 
 // On the code of a source whose cells are all there, with a stack of its depth, the machine makes the source's writes
@@ -12,6 +13,11 @@ pub fn agreement_stands()
 // After every list of calls on the code of a source: cells, writes, ending, height and steps are those of the source.
 pub fn sessions_keep_step()
     ensures { Kept }
+{}
+
+// Code names no cells but those that its source is within.
+pub fn cells_stand()
+    ensures { Celled }
 {}
 
 // Two sources on the machine, step by step and in a session, and the theorem at one of them.

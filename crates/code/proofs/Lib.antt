@@ -2,3 +2,4 @@ pub mod Compiling
 pub mod Exact
 pub mod Heights
 pub mod Enclosed
+pub mod Examples

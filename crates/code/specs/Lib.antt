@@ -3,3 +3,4 @@ pub mod Compile
 pub mod Theorems
 pub mod Enclosed
 pub mod Heights
+pub mod Examples

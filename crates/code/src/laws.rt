@@ -1,5 +1,6 @@
 // The laws of what a source is compiled to.
 ghost use Rattle.code.specs.Enclosed.{Enclosed};
+ghost use Rattle.code.specs.Examples.{Examples};
 ghost use Rattle.code.specs.Heights.{Deep};
 ghost use Rattle.code.specs.Theorems.{CompilesExactly};
 
@@ -17,4 +18,9 @@ pub fn depth_is_the_largest()
 // Each place that the code of a source goes to is one of it, and HALT is its last.
 pub fn code_is_enclosed()
     ensures { Enclosed }
+{}
+
+// Sources with their code or their refusal, images and numbers: the table holds of the definitions.
+pub fn examples_stand()
+    ensures { Examples }
 {}

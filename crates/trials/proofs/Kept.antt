@@ -17,7 +17,7 @@ use Rattle.words.specs.declared.code.Code.{Code as Lent}
 use Rattle.agreement.specs.Sessions.{limits, Promise}
 use Rattle.trials.specs.Trials.{Answers, lent_as, Readies, Makes, Tried}
 use Rattle.agreement.proofs.Calls.{kept}
-use Rattle.agreement.proofs.Named.{admitted_within}
+use Rattle.agreement.proofs.Admitted.{admitted_within}
 
 -- what fits has no reason not to
 passes : (a b e : Bool) → cond a (Some BadCode) (cond b (Some ShortStack) (cond e (Some ShortStore) None)) ≡ None → (b ≡ false) × (e ≡ false)
