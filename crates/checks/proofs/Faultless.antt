@@ -1,5 +1,5 @@
 -- A fault that is told unless a test holds. Assumes nothing.
-use Rattle.std.proofs.Common.{◌≡◌, ℕ, Bool, true, List, [], None, sym, ap, ◌∙◌}
+use Rattle.std.proofs.Common.{◌≡◌, ℕ, Bool, true, List, [], None}
 use Rattle.words.specs.declared.refusal.Refusal.{Refusal}
 use Rattle.checks.specs.Faults.{also, unless, least}
 use Rattle.checks.proofs.Narrowing.{also_none, unless_none}

@@ -51,3 +51,10 @@ module _ (t : Table) (g : Good t) (n : List ℕ) where
   -- all of an array's are, and it has one at least
   pub array_cells : Declared t n sort.Array → ((row_of t n).cell + (row_of t n).cells ≤ t.cells) × (1 ≤ (row_of t n).cells)
   array_cells d = rw (row_is d.row d.found) (inside d.row d.found, sized sort.Array d.row d.found d.sort)
+
+-- of a program's own table
+pub simple_inside : (p : Program) (n : List ℕ) → Declared (program_table p) n sort.Simple → (row_of (program_table p) n).cell < (program_table p).cells
+simple_inside p n d = simple_cell (program_table p) (table_good p) n d
+
+pub array_inside : (p : Program) (n : List ℕ) → Declared (program_table p) n sort.Array → ((row_of (program_table p) n).cell + (row_of (program_table p) n).cells ≤ (program_table p).cells) × (1 ≤ (row_of (program_table p) n).cells)
+array_inside p n d = array_cells (program_table p) (table_good p) n d
