@@ -53,31 +53,49 @@ fn is_same(rt: &HostRuntime, one: &str, other: &str) -> bool {
     }
 }
 
-// Only a plain file, which is not the source, is replaced.
-fn is_open_to(rt: &HostRuntime, path: &str, target: &str) -> anyhow::Result<()> {
+// Why a file is not to be replaced: only a plain one is, that is not the source.
+fn objection(rt: &HostRuntime, path: &str, target: &str) -> Option<&'static str> {
     if is_same(rt, path, target) {
-        return Err(anyhow!("it is the source"));
+        return Some("it is the source");
     }
     match fs::metadata(rt, target) {
-        Ok(found) if !found.is_file() => Err(anyhow!("it is no plain file")),
-        _ => Ok(()),
+        Ok(found) if !found.is_file() => Some("it is no plain file"),
+        _ => None,
     }
 }
 
-// The target is as it was, until a whole and right file takes its place.
+// The target is as it was, until a whole and right file takes its place. A file that stands beside it already is left alone.
 fn put(
+    rt: &HostRuntime,
+    made: &Made,
+    image: &[u8],
+    beside: &str,
+    target: &str,
+) -> anyhow::Result<()> {
+    let file = File::create_new(rt, beside)?;
+    if let Err(e) = fill(rt, made, image, file, beside, target) {
+        let _ = fs::remove_file(rt, beside);
+        return Err(e);
+    }
+    Ok(())
+}
+
+// Why the image is not written, if it is not.
+fn store(
     rt: &HostRuntime,
     made: &Made,
     image: &[u8],
     path: &str,
     target: &str,
 ) -> anyhow::Result<()> {
-    is_open_to(rt, path, target)?;
+    if let Some(why) = objection(rt, path, target) {
+        println!(rt; "{target}: cannot be written: {why}")?;
+        return Err(anyhow!("the image cannot be written"));
+    }
     let beside = format!(in rt.alloc(); "{target}.part")?;
-    let file = File::create_new(rt, beside.as_str())?;
-    if let Err(e) = fill(rt, made, image, file, beside.as_str(), target) {
-        let _ = fs::remove_file(rt, beside.as_str());
-        return Err(e);
+    if let Err(e) = put(rt, made, image, beside.as_str(), target) {
+        println!(rt; "{target}: cannot be written by way of {beside}: {e}")?;
+        return Err(anyhow!("the image cannot be written"));
     }
     Ok(())
 }
@@ -99,9 +117,6 @@ fn figures(rt: &HostRuntime, made: &Made, image: &[u8]) -> anyhow::Result<()> {
 pub fn compile(rt: &HostRuntime, path: &str, target: &str) -> anyhow::Result<()> {
     let made = make(rt, path)?;
     let image = made.image(rt.alloc())?;
-    if let Err(e) = put(rt, &made, image.as_slice(), path, target) {
-        println!(rt; "{target}: cannot be written: {e}")?;
-        return Err(anyhow!("the image cannot be written"));
-    }
+    store(rt, &made, image.as_slice(), path, target)?;
     figures(rt, &made, image.as_slice())
 }
