@@ -1,6 +1,7 @@
 // `spl batch`: one answer line to each request line; and `spl check`: a table of them.
 use crate::cutting::put_token;
 use crate::fields::{Problem, hex, instrs, miscount, number, word};
+use crate::sessions::Desk;
 use crate::source::load;
 use anyhow::anyhow;
 use code::compiler::Compiler;
@@ -20,7 +21,7 @@ const MOST_INSTRUCTIONS: usize = 16383;
 
 const MOST_BYTES: usize = 147456;
 
-fn refused(out: &mut String, fault: impl Into<Refusal>) -> Result<(), Problem> {
+pub fn refused(out: &mut String, fault: impl Into<Refusal>) -> Result<(), Problem> {
     let Refusal { place, number } = fault.into();
     write!(out, "no {number} {place}")?;
     Ok(())
@@ -70,6 +71,7 @@ pub struct Bench {
     table: Vec<Instr>,
     reader: Workspace,
     compiler: Compiler,
+    desk: Desk,
 }
 
 impl Bench {
@@ -81,6 +83,7 @@ impl Bench {
             table: Vec::new(heap),
             reader: Workspace::new(heap)?,
             compiler: Compiler::new(heap)?,
+            desk: Desk::new(heap),
         })
     }
 
@@ -182,6 +185,8 @@ impl Bench {
             [b"tokens", fields @ ..] => self.tokens(fields, out),
             [b"parse", fields @ ..] => self.parse(fields, out),
             [b"compile", fields @ ..] => self.compile(fields, out),
+            [b"session", fields @ ..] => self.desk.session(fields, out),
+            [b"single", fields @ ..] => self.desk.single(fields, out),
             _ => Err(Problem::NotRequest("no such request")),
         }
     }

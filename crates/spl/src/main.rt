@@ -7,6 +7,7 @@ mod fields;
 mod listing;
 mod mark;
 mod outline;
+mod sessions;
 mod source;
 
 use anyhow::anyhow;
