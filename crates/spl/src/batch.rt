@@ -1,6 +1,7 @@
 // `spl batch`: one answer line to each request line; and `spl check`: a table of them.
 use crate::cutting::put_token;
 use crate::fields::{Problem, hex, instrs, miscount, number, word};
+use crate::made::{MOST_BYTES, MOST_INSTRUCTIONS};
 use crate::sessions::Desk;
 use crate::source::load;
 use anyhow::anyhow;
@@ -15,11 +16,6 @@ use text::whole::TokensFault;
 use words::code::{Code, Figures};
 use words::instr::Instr;
 use words::refusal::Refusal;
-
-// No image has more instructions or bytes, so that larger tables and rooms are answered alike.
-const MOST_INSTRUCTIONS: usize = 16383;
-
-const MOST_BYTES: usize = 147456;
 
 pub fn refused(out: &mut String, fault: impl Into<Refusal>) -> Result<(), Problem> {
     let Refusal { place, number } = fault.into();
@@ -92,6 +88,7 @@ impl Bench {
         let [table, bytes] = fields else {
             return Err(miscount(fields.len(), 2));
         };
+        // a larger table is answered alike
         let room = number(table)?.min(MOST_INSTRUCTIONS);
         hex(bytes, &mut self.bytes)?;
         let table = lent(&mut self.table, room)?;
