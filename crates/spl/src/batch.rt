@@ -2,6 +2,7 @@
 use crate::cutting::put_token;
 use crate::fields::{Problem, hex, instrs, miscount, number, word};
 use crate::made::{MOST_BYTES, MOST_INSTRUCTIONS};
+use crate::sessions::Desk;
 use crate::source::load;
 use anyhow::anyhow;
 use code::compiler::Compiler;
@@ -16,7 +17,7 @@ use words::code::{Code, Figures};
 use words::instr::Instr;
 use words::refusal::Refusal;
 
-fn refused(out: &mut String, fault: impl Into<Refusal>) -> Result<(), Problem> {
+pub fn refused(out: &mut String, fault: impl Into<Refusal>) -> Result<(), Problem> {
     let Refusal { place, number } = fault.into();
     write!(out, "no {number} {place}")?;
     Ok(())
@@ -66,6 +67,7 @@ pub struct Bench {
     table: Vec<Instr>,
     reader: Workspace,
     compiler: Compiler,
+    desk: Desk,
 }
 
 impl Bench {
@@ -77,6 +79,7 @@ impl Bench {
             table: Vec::new(heap),
             reader: Workspace::new(heap)?,
             compiler: Compiler::new(heap)?,
+            desk: Desk::new(heap),
         })
     }
 
@@ -179,6 +182,8 @@ impl Bench {
             [b"tokens", fields @ ..] => self.tokens(fields, out),
             [b"parse", fields @ ..] => self.parse(fields, out),
             [b"compile", fields @ ..] => self.compile(fields, out),
+            [b"session", fields @ ..] => self.desk.session(fields, out),
+            [b"single", fields @ ..] => self.desk.single(fields, out),
             _ => Err(Problem::NotRequest("no such request")),
         }
     }

@@ -13,6 +13,7 @@ mod map;
 mod mark;
 mod origins;
 mod outline;
+mod sessions;
 mod source;
 mod verify;
 
