@@ -1,0 +1,49 @@
+-- What the machine does on the code of a text, the text means. Assumes nothing.
+use Rattle.std.proofs.Common.{◌≡◌, ℕ, ◌≤◌, List, length, replicate, take, Some, Ok, sym, ap, subst, ◌∙◌, arith}
+use Rattle.std.proofs.lemmas.List.{length-replicate, take_all}
+use Rattle.trees.specs.Trees.{Program}
+use Rattle.typed.specs.Code.{program, depth}
+use Rattle.checks.specs.Names.{program_table}
+use Rattle.checks.specs.Writing.{resolve}
+use Rattle.machine.specs.declared.ending.Ending.{Ending}
+use Rattle.machine.specs.Machine.{State, state, run}
+use Rattle.meaning.specs.Effects.{Store, leave, writes_of}
+use Rattle.meaning.specs.Meaning.{exec, Within}
+use Rattle.meaning.proofs.Cells.{confined}
+use Rattle.session.specs.Sessions.{begun}
+use Rattle.agreement.specs.Agreement.{Keeps, Agrees, after, start}
+use Rattle.agreement.proofs.Whole.{agreement}
+use Rattle.agreement.proofs.Admitted.{admitted_within}
+use Rattle.code.specs.Compile.{Code, CompiledTree}
+use Rattle.code.proofs.Exact.{tree_of}
+use Rattle.trials.specs.Examples.{Outcome, outcome_of, Run, OnMachine, Meant}
+
+module _ (text : List ℕ) (p : Program) (c : Code) (w : CompiledTree text p c) (σ : Store) (there : c.cells ≤ length σ) (m : ℕ) where
+  machine : State
+  machine = run c.instrs c.depth m (state begun (replicate c.depth 0) σ)
+
+  agrees : Agrees σ (depth (resolve p)) (λ k. exec (resolve p) k σ) machine
+  unfolding machine after
+  agrees =
+      let cells : (program_table p).cells ≤ length σ = rw w.cells at there in
+      let within : Within (resolve p) (length σ) = confined.more (resolve p) (program_table p).cells (length σ) cells (admitted_within p w.admitted.names w.admitted.sizes) in
+      let lent : depth (resolve p) ≤ length (replicate (depth (resolve p)) 0) = omega (arith, length-replicate {A = ℕ} (depth (resolve p)) 0) in
+      rw (w.depth, w.instrs) ((agreement (resolve p) (replicate (depth (resolve p)) 0) σ within lent).always m)
+
+pub meant : (r : Run) → OnMachine r → r.code.cells ≤ length r.cells → Meant r
+unfolding machine
+meant r o l =
+    let t = tree_of r.text 16383 r.code o.compiles in
+    let a = agrees r.text t.0 r.code t.1 r.cells l r.most in
+    let k = a.ends r.ending (ap (λ (x : Outcome). x.ending) o.ends) in
+    let ws = writes_of (exec (resolve t.0) k.0 r.cells) in
+    let n = ap (λ (x : Outcome). x.writes) o.ends in
+    let c = ap (λ (x : Outcome). x.cells) o.ends in
+    record {
+      tree = t.0;
+      compiles = t.1;
+      bound = k.0;
+      ends = k.1;
+      writes = k.2 ∙ n;
+      left = ap (λ vs. leave vs r.cells) (sym (take_all _ ws (omega (arith, k.2)))) ∙ sym (a.same k.0 (omega (arith, k.2))) ∙ c;
+    }
