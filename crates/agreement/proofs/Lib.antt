@@ -10,3 +10,4 @@ pub mod Stored
 pub mod Calls
 pub mod Examples
 pub mod Named
+pub mod Admitted

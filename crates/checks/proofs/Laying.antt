@@ -49,7 +49,7 @@ not_first x r rs e =
 turned : (a b : List ℕ) → bytes_eq a b ≡ false → bytes_eq b a ≡ false
 turned a b f = other b a (λ e. let z : ◌≡◌ {A = Bool} true false = sym (same a b (sym e)) ∙ f in absurd (let y : ◌≡◌ {A = ℕ} 0 1 = cc in omega arith))
 
-look_push : (rs : List Row) (r : Row) (n : List ℕ) → look rs n ≡ None → bytes_eq r.name n ≡ false → look (rs ++ r ∷ []) n ≡ None
+pub look_push : (rs : List Row) (r : Row) (n : List ℕ) → look rs n ≡ None → bytes_eq r.name n ≡ false → look (rs ++ r ∷ []) n ≡ None
 look_push [] r n e f = rw f
 look_push (x ∷ rs) r n e f =
     ⊎_elim (λ t. some_none x (rw t at e)) (λ g. rw g (look_push rs r n (rw g at e) f)) (cases_Bool (bytes_eq x.name n))
@@ -70,7 +70,7 @@ good_extended t n k s c g e l z =
       sized = each_push (λ r. Sized r.sort r.cells) t.rows r g.sized z;
     }
 
-not_known : (o : Option Row) → is_known o ≡ false → o ≡ None
+pub not_known : (o : Option Row) → is_known o ≡ false → o ≡ None
 not_known None e = refl
 not_known (Some r) e = absurd (let z : ◌≡◌ {A = ℕ} 0 1 = cc in omega arith)
 

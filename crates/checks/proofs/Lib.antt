@@ -9,3 +9,8 @@ pub mod Laying
 pub mod Narrowing
 pub mod Judging
 pub mod Counting
+pub mod NameRules
+pub mod SizeRules
+pub mod NamedCells
+pub mod Faultless
+pub mod TypeRules

@@ -6,6 +6,7 @@ pub mod Sizes
 pub mod Writing
 pub mod Emissions
 pub mod Layout
+pub mod Rules
 pub mod Laws
 pub mod Views
 pub mod Entered

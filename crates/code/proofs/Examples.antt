@@ -20,7 +20,7 @@ use Rattle.words.specs.Rows.{operands_of}
 use Rattle.code.specs.Compile.{compiled}
 use Rattle.code.specs.Examples.{Examples}
 
-stages : ℕ
+unfoldable pub stages : ℕ
 unfolding value_of closing gap_of reserved_words keyword_of lexeme cut left fault texted stated stepping limited later parse syntaxed used entering cells_at row_of declare verdict judged checked typed_list peak emitted compiled
 stages = 0
 

@@ -28,7 +28,7 @@ pub enum Answer {
 
 impl Session {
     // Makes one call.
-    pub(crate) fn call<S: Store>(
+    pub fn call<S: Store>(
         &mut self,
         lent: &mut Lent<'_, '_, '_, S>,
         call: Call,
@@ -52,7 +52,7 @@ impl Session {
 
     // Makes the calls one after another, and puts their answers at the front of the places for them. Where there are too
     // few places it makes none, and nothing changes.
-    pub(crate) fn play<S: Store>(
+    pub fn play<S: Store>(
         &mut self,
         lent: &mut Lent<'_, '_, '_, S>,
         calls: &[Call],

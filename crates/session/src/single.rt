@@ -42,7 +42,7 @@ fn once<S: Store>(
 }
 
 // Starts and resumes once. The stack words are all zero afterwards, on every way out.
-pub(crate) fn single<S: Store>(
+pub fn single<S: Store>(
     code: Code<'_>,
     stack: &mut [u16],
     store: &mut S,

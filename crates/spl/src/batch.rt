@@ -1,23 +1,20 @@
 // `spl batch`: one answer line to each request line; and `spl check`: a table of them.
 use crate::cutting::put_token;
 use crate::fields::{Problem, hex, instrs, miscount, number, word};
+use crate::made::{MOST_BYTES, MOST_INSTRUCTIONS};
 use crate::source::load;
 use anyhow::anyhow;
+use code::compiler::Compiler;
 use image::read::decode;
 use image::write::encode;
-use std::alloc::Global;
+use std::alloc::{AllocError, Global};
 use std::fmt::Write;
 use std::io::Read;
 use syntax::workspace::Workspace;
 use text::whole::TokensFault;
-use words::code::Code;
+use words::code::{Code, Figures};
 use words::instr::Instr;
 use words::refusal::Refusal;
-
-// No image has more instructions or bytes, so that larger tables and rooms are answered alike.
-const MOST_INSTRUCTIONS: usize = 16383;
-
-const MOST_BYTES: usize = 147456;
 
 fn refused(out: &mut String, fault: impl Into<Refusal>) -> Result<(), Problem> {
     let Refusal { place, number } = fault.into();
@@ -46,21 +43,41 @@ fn put_instrs(out: &mut String, code: &[Instr]) -> Result<(), Problem> {
     Ok(())
 }
 
+// A table of `n` entries: the first ones of a list that has grown to the longest that was asked for. What they hold does
+// not matter, since no answer shows an entry that was not written.
+fn lent(table: &mut Vec<Instr>, n: usize) -> Result<&mut [Instr], Problem> {
+    if table.len() < n {
+        table.resize(n, Instr::default())?;
+    }
+    Ok(&mut table.as_mut_slice()[..n])
+}
+
+fn put_code(out: &mut String, figures: Figures, table: &[Instr]) -> Result<(), Problem> {
+    write!(out, "ok {} {} ", figures.cells, figures.depth)?;
+    put_instrs(out, table.get(..figures.count as usize).unwrap_or(table))
+}
+
 // Memory that serves line after line.
 #[derive(Drop)]
 pub struct Bench {
     heap: Global,
     bytes: Vec<u8>,
     code: Vec<Instr>,
+    table: Vec<Instr>,
+    reader: Workspace,
+    compiler: Compiler,
 }
 
 impl Bench {
-    fn new(heap: Global) -> Bench {
-        Bench {
+    fn new(heap: Global) -> Result<Bench, AllocError> {
+        Ok(Bench {
             heap,
             bytes: Vec::new(heap),
             code: Vec::new(heap),
-        }
+            table: Vec::new(heap),
+            reader: Workspace::new(heap)?,
+            compiler: Compiler::new(heap)?,
+        })
     }
 
     // imagein TABLE HEX
@@ -68,15 +85,12 @@ impl Bench {
         let [table, bytes] = fields else {
             return Err(miscount(fields.len(), 2));
         };
+        // a larger table is answered alike
         let room = number(table)?.min(MOST_INSTRUCTIONS);
         hex(bytes, &mut self.bytes)?;
-        let mut table = vec![in self.heap; Instr::default(); room]?;
-        match decode(self.bytes.as_slice(), table.as_mut_slice()) {
-            Ok(figures) => {
-                write!(out, "ok {} {} ", figures.cells, figures.depth)?;
-                table.truncate(figures.count as usize);
-                put_instrs(out, table.as_slice())
-            }
+        let table = lent(&mut self.table, room)?;
+        match decode(self.bytes.as_slice(), table) {
+            Ok(figures) => put_code(out, figures, table),
             Err(fault) => refused(out, fault),
         }
     }
@@ -131,12 +145,25 @@ impl Bench {
             return Err(miscount(fields.len(), 1));
         };
         hex(bytes, &mut self.bytes)?;
-        let mut work = Workspace::new(self.heap)?;
-        match work.read(self.bytes.as_slice()) {
+        match self.reader.read(self.bytes.as_slice()) {
             Ok(()) => {
-                write!(out, "ok {}", work.nodes().len())?;
+                write!(out, "ok {}", self.reader.nodes().len())?;
                 Ok(())
             }
+            Err(fault) => refused(out, fault),
+        }
+    }
+
+    // compile TABLE HEX
+    fn compile(&mut self, fields: &[&[u8]], out: &mut String) -> Result<(), Problem> {
+        let [table, bytes] = fields else {
+            return Err(miscount(fields.len(), 2));
+        };
+        let room = number(table)?.min(MOST_INSTRUCTIONS);
+        hex(bytes, &mut self.bytes)?;
+        let table = lent(&mut self.table, room)?;
+        match self.compiler.compile(self.bytes.as_slice(), table) {
+            Ok(figures) => put_code(out, figures, table),
             Err(fault) => refused(out, fault),
         }
     }
@@ -151,6 +178,7 @@ impl Bench {
             [b"imageout", fields @ ..] => self.image_out(fields, out),
             [b"tokens", fields @ ..] => self.tokens(fields, out),
             [b"parse", fields @ ..] => self.parse(fields, out),
+            [b"compile", fields @ ..] => self.compile(fields, out),
             _ => Err(Problem::NotRequest("no such request")),
         }
     }
@@ -197,7 +225,7 @@ fn without_feed(line: &[u8]) -> &[u8] {
 // `spl check`: a table of requests with their answers; lines that begin with `#`, and empty ones, are passed over.
 pub fn check(rt: &HostRuntime, path: &str) -> anyhow::Result<()> {
     let input = load(rt, path)?;
-    let mut bench = Bench::new(rt.alloc());
+    let mut bench = Bench::new(rt.alloc())?;
     let mut count = 0u64;
     let mut wrong = 0u64;
     for line in input.as_slice().split_inclusive(is_feed) {
@@ -221,7 +249,7 @@ pub fn batch(rt: &HostRuntime) -> anyhow::Result<()> {
     let heap = rt.alloc();
     let mut input = Vec::new(heap);
     rt.stdin().read_to_end(&mut input)?;
-    let mut bench = Bench::new(heap);
+    let mut bench = Bench::new(heap)?;
     let mut out = String::new(heap);
     for line in input.as_slice().split_inclusive(is_feed) {
         bench.answer(without_feed(line), &mut out)?;

@@ -8,7 +8,7 @@ use text::reserved::keyword;
 use text::token::{Kind, Token};
 use text::whole::TokensFault;
 
-fn place_of(t: &Token<'_>) -> usize {
+pub fn place_of(t: &Token<'_>) -> usize {
     match t {
         Token::Word(_, place) | Token::Number(_, _, _, place) | Token::Symbol(_, place) => *place,
     }

@@ -1,23 +1,15 @@
-// `spl list`: what an image holds.
+// `spl list`: what an image holds, or a source with the code that its lines give.
+use crate::annotating::listing;
+use crate::instruction::shown;
+use crate::made::{MOST_INSTRUCTIONS, make};
 use crate::source::load;
 use anyhow::anyhow;
+use image::fault::ImageFault;
 use image::read::decode;
 use image::write::{entry_size, size};
 use words::code::Figures;
 use words::instr::Instr;
-use words::op::Op;
 use words::refusal::Refusal;
-
-// An instruction with the operands that it names.
-fn line(rt: &HostRuntime, index: usize, offset: usize, i: Instr) -> anyhow::Result<()> {
-    let op = Op::try_from(i.number)?;
-    match op.operands() {
-        2 => println!(rt; "{index:>5} {offset:>7}  {op:<4} {} {}", i.a, i.b)?,
-        1 => println!(rt; "{index:>5} {offset:>7}  {op:<4} {}", i.a)?,
-        _ => println!(rt; "{index:>5} {offset:>7}  {op}")?,
-    }
-    Ok(())
-}
 
 fn lines(rt: &HostRuntime, figures: Figures, bytes: usize, code: &[Instr]) -> anyhow::Result<()> {
     let Figures {
@@ -28,24 +20,29 @@ fn lines(rt: &HostRuntime, figures: Figures, bytes: usize, code: &[Instr]) -> an
     println!(rt; "cells {cells}, depth {depth}, instructions {count}, bytes {bytes}")?;
     let mut offset = size(cells) + size(depth) + size(count);
     for (index, i) in code.iter().enumerate() {
-        line(rt, index, offset, *i)?;
+        let text = shown(rt.alloc(), *i)?;
+        println!(rt; "{index:>5} {offset:>7}  {text}")?;
         offset = offset.saturating_add(entry_size(*i).unwrap_or(0));
     }
     Ok(())
 }
 
+fn refused(rt: &HostRuntime, path: &str, fault: ImageFault) -> anyhow::Result<()> {
+    let Refusal { place, number } = fault.into();
+    println!(rt; "{path}: refused with {number} at {place}: {fault}")?;
+    Err(anyhow!("the image is refused"))
+}
+
+// A file is an image if its name says so or if its bytes are one; any other is a source.
 pub fn list(rt: &HostRuntime, path: &str) -> anyhow::Result<()> {
     let bytes = load(rt, path)?;
-    let mut table = vec![in rt.alloc(); Instr::default(); 16383]?;
+    let mut table = vec![in rt.alloc(); Instr::default(); MOST_INSTRUCTIONS]?;
     match decode(bytes.as_slice(), table.as_mut_slice()) {
         Ok(figures) => {
             table.truncate(figures.count as usize);
             lines(rt, figures, bytes.len(), table.as_slice())
         }
-        Err(fault) => {
-            let Refusal { place, number } = fault.into();
-            println!(rt; "{path}: refused with {number} at {place}: {fault}")?;
-            Err(anyhow!("the image is refused"))
-        }
+        Err(fault) if path.ends_with(".image") => refused(rt, path, fault),
+        Err(_) => listing(rt, &make(rt, path)?),
     }
 }

@@ -1,13 +1,20 @@
 // spl: the toolchain's program. What matters is in the libraries; here files and lines become calls, and answers text.
 #![tactic(auto)]
 
+mod annotating;
 mod batch;
+mod compiling;
 mod cutting;
 mod fields;
+mod instruction;
 mod listing;
+mod made;
+mod map;
 mod mark;
+mod origins;
 mod outline;
 mod source;
+mod verify;
 
 use anyhow::anyhow;
 use std::alloc::Global;
@@ -16,7 +23,12 @@ use std::env;
 const USAGE: &str = "usage: spl COMMAND [then COMMAND]...
   tokens SOURCE  print the tokens of a source, each with its place
   parse SOURCE   print an outline of a source: its declarations and statements, each with its line
-  list IMAGE     print what an image holds: its figures, then each instruction
+  map SOURCE     print the names of a source: their cells, and where each is declared, written and read
+  compile SOURCE IMAGE
+                 compile a source, write its image into a file, and print its figures
+  list FILE      print what an image holds: its figures, then each instruction; or a source with the code of its lines
+  verify SOURCE IMAGE
+                 say whether an image is the one of a source, and if not, where they part
   check TABLE    answer the requests of a table, and compare with the answers there
   batch          answer the requests on standard input, one line to each
 ";
@@ -33,6 +45,13 @@ fn command(rt: &HostRuntime, words: &[String]) -> anyhow::Result<()> {
         [name] if name.as_str() == "batch" => batch::batch(rt),
         [name, path] if name.as_str() == "tokens" => cutting::tokens(rt, path.as_str()),
         [name, path] if name.as_str() == "parse" => outline::parse(rt, path.as_str()),
+        [name, path] if name.as_str() == "map" => map::map(rt, path.as_str()),
+        [name, path, target] if name.as_str() == "compile" => {
+            compiling::compile(rt, path.as_str(), target.as_str())
+        }
+        [name, path, target] if name.as_str() == "verify" => {
+            verify::verify(rt, path.as_str(), target.as_str())
+        }
         [name, path] if name.as_str() == "check" => batch::check(rt, path.as_str()),
         [name, path] if name.as_str() == "list" => listing::list(rt, path.as_str()),
         _ => {

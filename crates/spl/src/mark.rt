@@ -5,14 +5,14 @@ use std::alloc::Global;
 use std::fmt::Display;
 use words::refusal::Refusal;
 
-// The bytes up to a line feed as text; what cannot be shown is a question mark.
-fn shown(heap: Global, bytes: &[u8]) -> anyhow::Result<String> {
+// The bytes up to a line feed as text: a carriage return as the blank that it is, what cannot be shown as a question mark.
+pub fn shown(heap: Global, bytes: &[u8]) -> anyhow::Result<String> {
     let mut text = String::new(heap);
     for b in bytes.iter().take_while(|b| **b != b'\n') {
-        text.push(if b.is_ascii_graphic() || *b == b' ' {
-            *b as char
-        } else {
-            '?'
+        text.push(match b {
+            b'\r' => ' ',
+            b' '..=b'~' => *b as char,
+            _ => '?',
         })?;
     }
     Ok(text)

@@ -1,5 +1,6 @@
 // A source as its file holds it, and places in it: lines and columns.
 use anyhow::anyhow;
+use std::alloc::Global;
 use std::fs;
 
 // A place, its line, from 1, and where that line begins.
@@ -38,6 +39,48 @@ impl Spot {
             }
         }
         Spot { place, line, start }
+    }
+}
+
+// The lines of a source, by number, from 1: for places that come in no order.
+#[derive(Drop)]
+pub struct Lines<'a> {
+    source: &'a [u8],
+    // where each begins
+    starts: Vec<usize>,
+}
+
+impl Lines<'_> {
+    pub fn of(heap: Global, source: &[u8]) -> anyhow::Result<Lines<'_>> {
+        let mut starts = Vec::new(heap);
+        starts.push(0)?;
+        for (i, b) in source.iter().enumerate() {
+            if *b == b'\n' {
+                starts.push(i.saturating_add(1))?;
+            }
+        }
+        Ok(Lines { source, starts })
+    }
+
+    // How many there are; what follows a last line feed is none.
+    pub fn count(&self) -> usize {
+        self.starts
+            .as_slice()
+            .partition_point(|start| *start < self.source.len())
+    }
+
+    // The line on which a place stands.
+    pub fn at(&self, place: usize) -> usize {
+        self.starts
+            .as_slice()
+            .partition_point(|start| *start <= place)
+    }
+
+    // The source from the beginning of a line.
+    pub fn from(&self, line: usize) -> &[u8] {
+        let before = line.saturating_sub(1);
+        let start = self.starts.as_slice().get(before).copied().unwrap_or(0);
+        self.source.get(start..).unwrap_or(self.source)
     }
 }
 

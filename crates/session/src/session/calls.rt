@@ -32,7 +32,7 @@ impl<S: Store> Lent<'_, '_, '_, S> {
 
 impl Session {
     // A session at instruction 0 with an empty stack.
-    pub(crate) fn start<S: Store>(
+    pub fn start<S: Store>(
         cells: u16,
         depth: u16,
         lent: &Lent<'_, '_, '_, S>,
@@ -54,21 +54,21 @@ impl Session {
     }
 
     // Instruction, height, steps, cell writes, and the ending once there is one.
-    pub(crate) fn report(&self) -> Vm
+    pub fn report(&self) -> Vm
         ensures { result ≡ self.now.vm }
     {
         self.vm
     }
 
     // The word of a cell of the store.
-    pub(crate) fn look<S: Store>(&self, store: &S, cell: u16) -> Result<u16, StoreFault>
+    pub fn look<S: Store>(&self, store: &S, cell: u16) -> Result<u16, StoreFault>
         ensures { told refusal_of result ≡ read_of (S.Store.words store.now) cell }
     {
         store.read(cell)
     }
 
     // Makes `limit` steps, fewer only if the run ends or 4,000,000,000 in all are reached.
-    pub(crate) fn resume<S: Store>(
+    pub fn resume<S: Store>(
         &mut self,
         lent: &mut Lent<'_, '_, '_, S>,
         limit: u64,
