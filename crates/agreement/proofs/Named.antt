@@ -106,10 +106,8 @@ module _ (n : ℕ) where
         all_e i _ h.1 (quiet (CHK m) (omega arith) (omega arith), all_e e _ h.2 (some (STX b m) (omega arith) (omega arith) h.0, g))
     all_s (deposit c a b e) p r h g = (load c h.0, all_e e _ h.2 (quiet (DEP a b) (omega arith) (omega arith), (stor c h.0, g)))
     all_s (deposit_at x m i a b e) p r h g =
-        all_e i _ h.2 (
-          quiet DUP (omega arith) (omega arith),
-          (some (LDX x m) (omega arith) (omega arith) h.0, all_e e _ h.3 (quiet (DEP a b) (omega arith) (omega arith), (some (STX x m) (omega arith) (omega arith) h.0, g))),
-        )
+        let z : All (DEP a b ∷ STX x m ∷ r) = (quiet (DEP a b) (omega arith) (omega arith), (some (STX x m) (omega arith) (omega arith) h.0, g)) in
+        all_e i _ h.2 (quiet DUP (omega arith) (omega arith), (some (LDX x m) (omega arith) (omega arith) h.0, all_e e _ h.3 z))
     all_s (when c b) p r h g = all_c c p _ _ h.0 (all_b b _ r h.1 g)
     all_s (either c b d) p r h g = all_c c p _ _ h.0 (all_b b _ _ h.1 (quiet (BR _) (omega arith) (omega arith), all_b d _ r h.2 g))
     all_s (while c b) p r h g = all_c c p _ _ h.0 (all_b b _ _ h.1 (quiet (BR p) (omega arith) (omega arith), g))

@@ -188,12 +188,12 @@ module _ (n : ℕ) where
     good_s (fill b k i e) p r m g =
         good_e i p _ (quiet (CHK k) _ _ (omega arith), good_e e (suc (end_e i p)) (STX b k ∷ r) (quiet (STX b k) _ r (omega arith), g))
     good_s (deposit c a b e) p r m g =
-        (quiet (LOAD c) p _ (omega arith), good_e e (suc p) (DEP a b ∷ STOR c ∷ r) (quiet (DEP a b) _ _ (omega arith), (quiet (STOR c) _ r (omega arith), g)))
+        let z : Good n (end_e e (suc p)) (DEP a b ∷ STOR c ∷ r) = (quiet (DEP a b) _ _ (omega arith), (quiet (STOR c) _ r (omega arith), g)) in
+        (quiet (LOAD c) p _ (omega arith), good_e e (suc p) (DEP a b ∷ STOR c ∷ r) z)
     good_s (deposit_at x k i a b e) p r m g =
-        good_e i p _ (
-          quiet DUP _ _ (omega arith),
-          (quiet (LDX x k) _ _ (omega arith), good_e e (suc (suc (end_e i p))) (DEP a b ∷ STX x k ∷ r) (quiet (DEP a b) _ _ (omega arith), (quiet (STX x k) _ r (omega arith), g))),
-        )
+        let q = suc (suc (end_e i p)) in
+        let z : Good n (end_e e q) (DEP a b ∷ STX x k ∷ r) = (quiet (DEP a b) _ _ (omega arith), (quiet (STX x k) _ r (omega arith), g)) in
+        good_e i p _ (quiet DUP _ _ (omega arith), (quiet (LDX x k) _ _ (omega arith), good_e e q (DEP a b ∷ STX x k ∷ r) z))
     good_s (when c b) p r m g =
         let q = end_c c p in
         good_c c p (end_b b q) _ m (omega (arith, m, grows_b b q)) (good_b b q r m g)
@@ -201,7 +201,8 @@ module _ (n : ℕ) where
         let q = end_c c p in
         let x = suc (end_b b q) in
         let k = grows_b d x in
-        good_c c p x _ (omega (arith, m, k)) (omega (arith, m, k, grows_b b q)) (good_b b q _ (omega (arith, m, k)) (br (end_b d x) _ _ m, good_b d x r m g))
+        let z : Good n (end_b b q) (BR (end_b d x) ∷ code_b d x r) = (br (end_b d x) _ _ m, good_b d x r m g) in
+        good_c c p x _ (omega (arith, m, k)) (omega (arith, m, k, grows_b b q)) (good_b b q _ (omega (arith, m, k)) z)
     good_s (while c b) p r m g =
         let q = end_c c p in
         let k = grows_b b q in
@@ -214,12 +215,13 @@ module _ (n : ℕ) where
         let u = suc (end_e e p) in
         let q = end_e l (end_e d u) in
         let k = grows_b b (suc q) in
+        let again = second (NEXT c q) (end_b b (suc q)) (DROP 2 ∷ r) (omega arith) (omega (arith, m, k)) in
         good_e e p _ (
           quiet (STOR c) _ _ (omega arith),
           good_e d u _
               (good_e l (end_e d u) _ (
                 second (FOR c (suc (end_b b (suc q)))) _ _ (omega arith) (omega (arith, m)),
-                good_b b (suc q) _ (omega (arith, m)) (second (NEXT c q) _ _ (omega arith) (omega (arith, m, k)), (quiet (DROP 2) _ r (omega arith), g)),
+                good_b b (suc q) _ (omega (arith, m)) (again, (quiet (DROP 2) _ r (omega arith), g)),
               )),
         )
     good_s (case e a) p r m g =
@@ -295,7 +297,10 @@ unfolding program
 good_all b = let n = suc (end_b b 0) in good_b n b 0 (HALT ∷ []) (omega arith) (quiet n HALT _ [] (omega arith), refl)
 
 good : (b : Body) → Good (length (program b)) 0 (program b)
-good b = let l = long (suc (end_b b 0)) 0 (program b) (good_all b) in let e : suc (end_b b 0) ≡ length (program b) = omega (arith, l) in subst (λ n. Good n 0 (program b)) e (good_all b)
+good b =
+    let l = long (suc (end_b b 0)) 0 (program b) (good_all b) in
+    let e : suc (end_b b 0) ≡ length (program b) = omega (arith, l) in
+    subst (λ n. Good n 0 (program b)) e (good_all b)
 
 encloses : (b : Body) → Encloses (program b)
 encloses b =

@@ -91,7 +91,8 @@ compiled_ok source room c h =
     (b.0, b.1, d.0, ap code_of d.1 ∙ f.0, subst (λ (k : Code). length k.instrs ≤ min 16383 room) f.0 f.1)
 
 -- what is accepted is written from a tree that is in order, and this is its code
-pub tree_of : (source : List ℕ) (room : ℕ) (c : Code) → compiled source room ≡ Ok c → (p : Program) × CompiledTree source p c × (length c.instrs ≤ min 16383 room)
+pub tree_of : (source : List ℕ) (room : ℕ) (c : Code) →
+    compiled source room ≡ Ok c → (p : Program) × CompiledTree source p c × (length c.instrs ≤ min 16383 room)
 tree_of source room c h =
     let a = compiled_ok source room c h in
     let w = read_to source a.0 a.1 in
@@ -163,7 +164,8 @@ none : (source : List ℕ) (p : Program) (f : Refusal) → IsWritten source p �
 none source p f w (inl e) = cc
 none source p f w (inr x) = let g = listed source p w in let u : syntaxed source ≡ Err f = unread_list source f x.0 x.1 x.2 in cc
 
-refused_so : (n : ℕ) (x : Result (List Piece) Refusal) (f : Refusal) → then x (parse n) ≡ Err f → (x ≡ Err f) ⊎ ((ps : List Piece) × (x ≡ Ok ps) × (parse n ps ≡ Err f))
+refused_so : (n : ℕ) (x : Result (List Piece) Refusal) (f : Refusal) →
+    then x (parse n) ≡ Err f → (x ≡ Err f) ⊎ ((ps : List Piece) × (x ≡ Ok ps) × (parse n ps ≡ Err f))
 refused_so n (Ok ps) f h = inr (ps, refl, h)
 refused_so n (Err e) f h = inl (cc)
 

@@ -32,7 +32,8 @@ pub record CompilesExactly : Type 0 where
   pub one : (source : List ℕ) (p q : Program) → IsWritten source p → IsWritten source q → p ≡ q
   pub none : (source : List ℕ) (p : Program) (f : Refusal) → IsWritten source p → Unread source f → ⊥
   -- what is answered is the code of such a tree that is in order, and there is room for it
-  pub only : (source : List ℕ) (room : ℕ) (c : Code) → compiled source room ≡ Ok c → (p : Program) × CompiledTree source p c × (length c.instrs ≤ min 16383 room)
+  pub only : (source : List ℕ) (room : ℕ) (c : Code) →
+      compiled source room ≡ Ok c → (p : Program) × CompiledTree source p c × (length c.instrs ≤ min 16383 room)
   -- and the code of each such tree is answered
   pub each : (source : List ℕ) (room : ℕ) (p : Program) →
       IsWritten source p → IsAdmitted p → length (program (resolve p)) ≤ min 16383 room → compiled source room ≡ Ok (code_for p)

@@ -1,3 +1,4 @@
 pub mod Kept
 pub mod Meant
 pub mod Examples
+pub mod Cells
