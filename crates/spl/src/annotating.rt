@@ -19,7 +19,7 @@ fn cell(i: Instr) -> Option<u16> {
 }
 
 // The name that has a cell.
-fn owner(names: &[NameEntry], cell: u16) -> Option<&NameEntry> {
+pub fn owner(names: &[NameEntry], cell: u16) -> Option<&NameEntry> {
     names.iter().find(|entry| {
         (cell as u32)
             .checked_sub(entry.cell)

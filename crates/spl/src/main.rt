@@ -13,8 +13,12 @@ mod map;
 mod mark;
 mod origins;
 mod outline;
+mod routine;
+mod running;
 mod sessions;
+mod settings;
 mod source;
+mod tracing;
 mod verify;
 
 use anyhow::anyhow;
@@ -30,6 +34,10 @@ const USAGE: &str = "usage: spl COMMAND [then COMMAND]...
   list FILE      print what an image holds: its figures, then each instruction; or a source with the code of its lines
   verify SOURCE IMAGE
                  say whether an image is the one of a source, and if not, where they part
+  run FILE [--cells WORD,WORD...] [--limit STEPS]
+                 run a source or an image from these words, and print how it ends and its cells before and after
+  trace FILE [--cells WORD,WORD...] [--limit STEPS]
+                 run it and print each step: the instruction, the words stacked before it, and the write that it makes
   check TABLE    answer the requests of a table, and compare with the answers there
   batch          answer the requests on standard input, one line to each
 ";
@@ -52,6 +60,12 @@ fn command(rt: &HostRuntime, words: &[String]) -> anyhow::Result<()> {
         }
         [name, path, target] if name.as_str() == "verify" => {
             verify::verify(rt, path.as_str(), target.as_str())
+        }
+        [name, path, options @ ..] if name.as_str() == "run" => {
+            running::run(rt, path.as_str(), options)
+        }
+        [name, path, options @ ..] if name.as_str() == "trace" => {
+            tracing::trace(rt, path.as_str(), options)
         }
         [name, path] if name.as_str() == "check" => batch::check(rt, path.as_str()),
         [name, path] if name.as_str() == "list" => listing::list(rt, path.as_str()),

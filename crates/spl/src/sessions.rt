@@ -37,7 +37,7 @@ enum Task {
 }
 
 // Words joined by `,`, `-` for none; they take the place of those in `out`.
-fn words(text: &[u8], out: &mut Vec<u16>) -> Result<(), Problem> {
+pub fn words(text: &[u8], out: &mut Vec<u16>) -> Result<(), Problem> {
     out.clear();
     if let [b'-'] = text {
         return Ok(());
@@ -70,7 +70,7 @@ fn calls(text: &[u8], out: &mut Vec<Call>) -> Result<(), Problem> {
     Ok(())
 }
 
-fn put_words(out: &mut String, list: &[u16]) -> Result<(), Problem> {
+pub fn put_words(out: &mut String, list: &[u16]) -> Result<(), Problem> {
     if list.is_empty() {
         out.push('-')?;
     }

@@ -1,0 +1,107 @@
+// `spl trace`: one line to each step of a source or an image.
+use crate::instruction::shown;
+use crate::routine::{Routine, open};
+use crate::sessions::put_words;
+use crate::settings::Settings;
+use machine::vm::Vm;
+use session::lent::Lent;
+use session::session::Session;
+use std::alloc::Global;
+use std::fmt::Write;
+use words::instr::Instr;
+use words::op::Op;
+use words::store::lent::Words;
+
+const LIMIT: u64 = 200;
+
+// The cell that an instruction writes, on these stacked words. STX has its index under the value.
+fn target(i: Instr, stacked: &[u16]) -> Option<u16> {
+    match (Op::try_from(i.number), stacked) {
+        (Ok(Op::Stor | Op::Next), _) => Some(i.a),
+        (Ok(Op::Stx), [.., index, _]) => i.a.checked_add(*index),
+        _ => None,
+    }
+}
+
+// A step before it is made: its number, the instruction, and the words stacked, the top last.
+fn put_step(
+    out: &mut String,
+    heap: Global,
+    vm: Vm,
+    i: Option<Instr>,
+    stacked: &[u16],
+) -> anyhow::Result<()> {
+    write!(out, "{:>6} {:>6}  ", vm.steps.saturating_add(1), vm.place)?;
+    match i {
+        Some(i) => {
+            let text = shown(heap, i)?;
+            write!(out, "{text:<15}")?;
+        }
+        None => out.push_str("past the code  ")?,
+    }
+    out.push_str("  ")?;
+    put_words(out, stacked)?;
+    Ok(())
+}
+
+// The step after it was made: the cell that it wrote.
+fn put_write(
+    out: &mut String,
+    heap: Global,
+    routine: &Routine,
+    cell: u16,
+    word: u16,
+) -> anyhow::Result<()> {
+    let name = routine.name(heap, cell)?;
+    write!(out, "  {name} := {}", routine.value(cell, word))?;
+    Ok(())
+}
+
+// Makes one step and prints it.
+fn step(
+    rt: &HostRuntime,
+    routine: &Routine,
+    session: &mut Session,
+    lent: &mut Lent<'_, '_, '_, Words<'_>>,
+) -> anyhow::Result<Vm> {
+    let heap = rt.alloc();
+    let before = session.report();
+    let i = lent.code.get(before.place as usize).copied();
+    let stacked = lent.stack.get(..before.height as usize).unwrap_or(&[]);
+    let mut text = String::new(heap);
+    put_step(&mut text, heap, before, i, stacked)?;
+    let target = i.and_then(|i| target(i, stacked));
+    let vm = session.resume(lent, 1)?;
+    if let (Some(cell), true) = (target, vm.writes > before.writes) {
+        let word = session.look(lent.store, cell)?;
+        put_write(&mut text, heap, routine, cell, word)?;
+    }
+    println!(rt; "{text}")?;
+    Ok(vm)
+}
+
+pub fn trace(rt: &HostRuntime, path: &str, options: &[String]) -> anyhow::Result<()> {
+    let heap = rt.alloc();
+    let settings = Settings::of(heap, options, LIMIT)?;
+    let routine = open(rt, path)?;
+    let code = routine.code();
+    let mut stack = vec![in heap; 0u16; code.depth as usize]?;
+    let mut memory = settings.store(heap, code.cells)?;
+    let mut store = Words {
+        cells: memory.as_mut_slice(),
+    };
+    let mut lent = Lent {
+        code: code.instructions,
+        stack: stack.as_mut_slice(),
+        store: &mut store,
+    };
+    let mut session = Session::start(code.cells, code.depth, &lent)?;
+    println!(rt; "  step  index  instruction      stack before, top last; write")?;
+    for _ in 0..settings.limit {
+        if session.report().ending.is_some() {
+            break;
+        }
+        step(rt, &routine, &mut session, &mut lent)?;
+    }
+    routine.tell_end(rt, session.report())
+}
