@@ -1,5 +1,5 @@
 -- The table of examples: the machine by computing, and the meaning by the theorem. Assumes nothing.
-use Rattle.std.proofs.Common.{◌≡◌, ℕ, ◌≤◌, List, [], ◌∷◌, ◌++◌, length, replicate, take, map, Some, sym, ap, refl, ◌∙◌, arith}
+use Rattle.std.proofs.Common.{ℕ, ◌≤◌, List, [], ◌∷◌, ◌++◌, length, map, arith}
 use Rattle.arith.specs.Integers.{int, fitted, sum, difference, product, quotient, remainder, negation, within, subscript, chosen, turns}
 use Rattle.arith.specs.Logicals.{odd}
 use Rattle.arith.specs.Relations.{compared, lcompared}
@@ -10,7 +10,7 @@ use Rattle.code.proofs.Examples.{stages, examples as code_examples}
 use Rattle.code.specs.Examples.{Row as CodeRow, rows as code_rows}
 use Rattle.code.specs.Examples as code
 use Rattle.trials.proofs.Meant.{meant}
-use Rattle.trials.specs.Examples.{Run, OnMachine, Row, compiling, running, Holds, HoldAll, runs, Examples}
+use Rattle.trials.specs.Examples.{Run, OnMachine, Row, compiling, running, HoldAll, runs, Examples}
 
 steps : ℕ
 unfolding int fitted sum difference product quotient remainder negation within subscript chosen turns odd compared lcompared deposited field decoded goes step run

@@ -1,22 +1,21 @@
 -- What the machine does on the code of a text, the text means. Assumes nothing.
-use Rattle.std.proofs.Common.{◌≡◌, ℕ, ◌≤◌, List, length, replicate, take, Some, Ok, sym, ap, subst, ◌∙◌, arith}
+use Rattle.std.proofs.Common.{ℕ, ◌≤◌, List, length, replicate, sym, ap, ◌∙◌, arith}
 use Rattle.std.proofs.lemmas.List.{length-replicate, take_all}
 use Rattle.trees.specs.Trees.{Program}
-use Rattle.typed.specs.Code.{program, depth}
+use Rattle.typed.specs.Code.{depth}
 use Rattle.checks.specs.Names.{program_table}
 use Rattle.checks.specs.Writing.{resolve}
-use Rattle.machine.specs.declared.ending.Ending.{Ending}
 use Rattle.machine.specs.Machine.{State, state, run}
 use Rattle.meaning.specs.Effects.{Store, leave, writes_of}
 use Rattle.meaning.specs.Meaning.{exec, Within}
 use Rattle.meaning.proofs.Cells.{confined}
 use Rattle.session.specs.Sessions.{begun}
-use Rattle.agreement.specs.Agreement.{Keeps, Agrees, after, start}
+use Rattle.agreement.specs.Agreement.{Agrees, after}
 use Rattle.agreement.proofs.Whole.{agreement}
 use Rattle.agreement.proofs.Admitted.{admitted_within}
 use Rattle.code.specs.Compile.{Code, CompiledTree}
 use Rattle.code.proofs.Exact.{tree_of}
-use Rattle.trials.specs.Examples.{Outcome, outcome_of, Run, OnMachine, Meant}
+use Rattle.trials.specs.Examples.{Outcome, Run, OnMachine, Meant}
 
 module _ (text : List ℕ) (p : Program) (c : Code) (w : CompiledTree text p c) (σ : Store) (there : c.cells ≤ length σ) (m : ℕ) where
   machine : State

@@ -1,6 +1,6 @@
 -- Sources, numbers and images, and sources from their text to the end of their run, on the machine and by their meaning: a
 -- table, and the one statement that it holds.
-use Rattle.std.specs.Prelude.{◌≡◌, ℕ, ◌≤◌, List, [], ◌∷◌, ◌++◌, length, map, replicate, codes, Some, Ok, Option, Result}
+use Rattle.std.specs.Prelude.{◌≡◌, ℕ, List, [], ◌∷◌, ◌++◌, length, map, replicate, codes, Some, Ok, Option}
 use Rattle.arith.specs.declared.stop.Stop.TheVariants.{Overflow, ZeroDivisor, BadIndex, BadCase}
 use Rattle.trees.specs.Trees.{Program}
 use Rattle.checks.specs.Writing.{resolve}
