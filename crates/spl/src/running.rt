@@ -42,7 +42,7 @@ fn play(
     let mut stack = vec![in heap; 0u16; code.depth as usize]?;
     if let Some(source) = routine.source() {
         let mut trial = Trial::new(heap)?;
-        let _ = trial.play(source, stack.as_mut_slice(), store, calls, answers)?;
+        trial.play(source, stack.as_mut_slice(), store, calls, answers)?;
         return Ok(());
     }
     let mut lent = Lent {

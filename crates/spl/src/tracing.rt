@@ -10,6 +10,7 @@ use std::alloc::Global;
 use std::fmt::Write;
 use words::instr::Instr;
 use words::op::Op;
+use words::store::Store;
 use words::store::lent::Words;
 
 const LIMIT: u64 = 200;
@@ -58,11 +59,11 @@ fn put_write(
 }
 
 // Makes one step and prints it.
-fn step(
+fn step<S: Store>(
     rt: &HostRuntime,
     routine: &Routine,
     session: &mut Session,
-    lent: &mut Lent<'_, '_, '_, Words<'_>>,
+    lent: &mut Lent<'_, '_, '_, S>,
 ) -> anyhow::Result<Vm> {
     let heap = rt.alloc();
     let before = session.report();
@@ -80,28 +81,46 @@ fn step(
     Ok(vm)
 }
 
+// Makes the steps over a store, and answers how the run stands then.
+fn steps<S: Store>(
+    rt: &HostRuntime,
+    routine: &Routine,
+    stack: &mut [u16],
+    store: &mut S,
+    limit: u64,
+) -> anyhow::Result<Vm> {
+    let code = routine.code();
+    let mut lent = Lent {
+        code: code.instructions,
+        stack,
+        store,
+    };
+    let mut session = Session::start(code.cells, code.depth, &lent)?;
+    for _ in 0..limit {
+        if session.report().ending.is_some() {
+            break;
+        }
+        step(rt, routine, &mut session, &mut lent)?;
+    }
+    Ok(session.report())
+}
+
 pub fn trace(rt: &HostRuntime, path: &str, options: &[String]) -> anyhow::Result<()> {
     let heap = rt.alloc();
     let settings = Settings::of(heap, options, LIMIT)?;
     let routine = open(rt, path)?;
-    let code = routine.code();
-    let mut stack = vec![in heap; 0u16; code.depth as usize]?;
-    let mut memory = settings.store(heap, code.cells)?;
+    let mut stack = vec![in heap; 0u16; routine.code().depth as usize]?;
+    let mut memory = settings.store(heap, routine.code().cells)?;
     let mut store = Words {
         cells: memory.as_mut_slice(),
     };
-    let mut lent = Lent {
-        code: code.instructions,
-        stack: stack.as_mut_slice(),
-        store: &mut store,
-    };
-    let mut session = Session::start(code.cells, code.depth, &lent)?;
     println!(rt; "  step  index  instruction      stack before, top last; write")?;
-    for _ in 0..settings.limit {
-        if session.report().ending.is_some() {
-            break;
-        }
-        step(rt, &routine, &mut session, &mut lent)?;
-    }
-    routine.tell_end(rt, session.report())
+    let vm = steps(
+        rt,
+        &routine,
+        stack.as_mut_slice(),
+        &mut store,
+        settings.limit,
+    )?;
+    routine.tell_end(rt, vm)
 }
