@@ -39,6 +39,7 @@ The answers are those of docs/BATCH.md and, for `compile`, `session` and `single
                                                  is rN (resume), lN (look) or p (report); an answer s PLACE HEIGHT STEPS WRITES
                                                  ENDING, w WORD, or no REFUSAL PLACE; the ending is - while absent
 """
+import glob
 import os
 import sys
 
@@ -310,8 +311,19 @@ def make(names):
     return 1 if bad else 0
 
 
-def check(paths):
+def same_copies():
+    """The stored run has no files but those of data/, so a routine that it runs stands there too."""
     bad = 0
+    for path in sorted(glob.glob(os.path.join(TOP, "examples", "*.spl"))):
+        copy = os.path.join(TOP, "crates", "spl", "data", os.path.basename(path))
+        if os.path.exists(copy) and open(path, "rb").read() != open(copy, "rb").read():
+            bad += 1
+            print("%s differs from %s" % (copy, path))
+    return bad
+
+
+def check(paths):
+    bad = same_copies()
     for path in paths:
         count = wrong = foreign = 0
         for line in open(path, encoding="latin-1"):
