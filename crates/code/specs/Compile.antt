@@ -17,7 +17,7 @@ use Rattle.checks.specs.Sizes.{program_sizes}
 use Rattle.checks.specs.Writing.{resolve}
 use Rattle.syntax.specs.Works.{syntaxed}
 use Rattle.checks.specs.declared.workspace.Workspace.{Workspace}
-use Rattle.checks.specs.Works.{Checked, checked, holds, nodes_of, entries_from}
+use Rattle.checks.specs.Works.{Checked, checked, holds, nothing, nodes_of, entries_from}
 use Rattle.emit.specs.Items.{emitted}
 use Rattle.code.specs.declared.fault.CompileFault.{CompileFault}
 use Rattle.code.specs.Faults.{refusal_of}
@@ -59,6 +59,11 @@ pub record CompiledTree (source : List ℕ) (p : Program) (c : Code) : Type 0 wh
   pub depth : c.depth ≡ depth (resolve p)
   pub instrs : c.instrs ≡ program (resolve p)
 
+-- what stays of a source: nothing if a stage before its code refused it
+abbrev pub held : Result Checked Refusal → Checked
+held (Ok c) = c
+held (Err f) = nothing
+
 -- The code stands at the front of the table, and behind it what was there, and the workspace holds the source's names and
 -- items; or the table is as it was. The syntax list is the source's in either case, if the grammar accepts it.
 abbrev pub Compiles : List ℕ → Workspace → (before after : List Instr) → Result Figures CompileFault → Type 0
@@ -70,4 +75,5 @@ Compiles source w a b (Ok f) =
     × (f.count ≡ length (code_of (holds w)).instrs)
     × (b ≡ (code_of (holds w)).instrs ++ drop f.count a)
     × (nodes_of w ≡ entries_from (syntaxed source))
-Compiles source w a b (Err e) = (compiled source (length a) ≡ Err (refusal_of e)) × (b ≡ a) × (nodes_of w ≡ entries_from (syntaxed source))
+Compiles source w a b (Err e) =
+    (compiled source (length a) ≡ Err (refusal_of e)) × (b ≡ a) × (holds w ≡ held (checked source)) × (nodes_of w ≡ entries_from (syntaxed source))

@@ -71,7 +71,7 @@ fn command(rt: &HostRuntime, words: &[String]) -> anyhow::Result<()> {
         [name, path] if name.as_str() == "list" => listing::list(rt, path.as_str()),
         _ => {
             usage(rt)?;
-            Err(anyhow!("there is no such command"))
+            Err(anyhow!("there is no such command, or its arguments are too few or too many"))
         }
     }
 }
@@ -81,6 +81,9 @@ fn commands(rt: &HostRuntime, heap: Global) -> anyhow::Result<()> {
     let mut words = Vec::new(heap);
     for word in env::args(rt)?.skip(1) {
         if word.as_str() == "then" {
+            if words.is_empty() {
+                return Err(anyhow!("a command is missing before `then`"));
+            }
             command(rt, words.as_slice())?;
             words.clear();
         } else {

@@ -33,5 +33,8 @@ pub fn tell<E: Copy + Display + Into<Refusal>>(
     let text = shown(rt.alloc(), spot.rest_of(source))?;
     println!(rt; "{text}")?;
     println!(rt; "{:>column$}", "^")?;
+    if place >= source.len() {
+        println!(rt; "the source ends there")?;
+    }
     Err(anyhow!("the source is refused"))
 }

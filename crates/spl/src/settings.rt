@@ -2,7 +2,9 @@
 use crate::fields::number;
 use crate::sessions::words;
 use anyhow::anyhow;
+use session::fault::SessionFault;
 use std::alloc::Global;
+use words::refusal::Refusal;
 
 #[derive(Drop)]
 pub struct Settings {
@@ -30,6 +32,17 @@ impl Settings {
             }
         }
         Ok(settings)
+    }
+
+    // No session makes 0 steps: that limit is refused as a session refuses it.
+    pub fn judge(&self, rt: &HostRuntime, path: &str) -> anyhow::Result<()> {
+        if self.limit > 0 {
+            return Ok(());
+        }
+        let fault = SessionFault::NoSteps;
+        let Refusal { place, number } = fault.into();
+        println!(rt; "{path}: refused with {number} at {place}: {fault}")?;
+        Err(anyhow!("the run is refused"))
     }
 
     // A store of so many cells.

@@ -108,6 +108,7 @@ fn steps<S: Store>(
 pub fn trace(rt: &HostRuntime, path: &str, options: &[String]) -> anyhow::Result<()> {
     let heap = rt.alloc();
     let settings = Settings::of(heap, options, LIMIT)?;
+    settings.judge(rt, path)?;
     let routine = open(rt, path)?;
     let mut stack = vec![in heap; 0u16; routine.code().depth as usize]?;
     let mut memory = settings.store(heap, routine.code().cells)?;

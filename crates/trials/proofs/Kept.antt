@@ -40,17 +40,26 @@ module _ (source : List ℕ) (p : Program) (c : Code) (st σ : List ℕ) (xs : L
       let there : (program_table p).cells ≤ length σ = rw w.cells at n in
       rw (w.cells, w.depth, w.instrs) (kept (resolve p) (program_table p).cells st σ (admitted_within p w.admitted.names w.admitted.sizes) short lent there xs)
 
-module _ (source : List ℕ) (c : Code) (st σ : List ℕ) where
-  pub keeps : compiled source 16383 ≡ Ok c → fitting c.cells c.depth (length c.instrs) (length st) (length σ) ≡ None → (xs : List Call) →
-      (p : Program) × CompiledTree source p c × Promise (resolve p) c.cells st σ (limits xs) (played c.cells c.depth c.instrs xs (state begun st σ))
-  keeps e f xs =
-      let t = tree_of source 16383 c e in
-      let r = roomy c.cells c.depth (length c.instrs) (length st) (length σ) f in
-      let l : length c.instrs ≤ min 16383 16383 = t.2 in
-      (t.0, t.1, promised source t.0 c st σ xs t.1 (omega (arith, l)) r.0 r.1)
-
-pub tried : (source : List ℕ) (xs : List Call) (st st' σ σ' : List ℕ) (a a' : Answers) (l : Lent) (x : Session) →
+pub tried : (source : List ℕ) (xs : List Call) (st st' σ σ' : List ℕ) (a a' : Answers) (l : Lent) (x : Session) → length xs ≤ length a →
     Readies source (Ok l) → Makes (Ok x) l.cells l.depth l.instructions.now xs st st' σ σ' a a' → Tried source xs st st' σ σ' a a' x
-tried source xs st st' σ σ' a a' l x e m =
-    let k = keeps source (lent_as l) st σ e m.0 xs in
-    record { tree = k.0; code = lent_as l; written = k.1; answers = m.2; left = m.1; kept = rw m.1 k.2 }
+tried source xs st st' σ σ' a a' l x h e m =
+    let c = lent_as l in
+    let t = tree_of source 16383 c e in
+    let r = roomy c.cells c.depth (length c.instrs) (length st) (length σ) m.0 in
+    let n : length c.instrs ≤ min 16383 16383 = t.2 in
+    let k : (ys : List Call) → Promise (resolve t.0) c.cells st σ (limits ys) (played c.cells c.depth c.instrs ys (state begun st σ)) =
+        λ ys. promised source t.0 c st σ ys t.1 (omega (arith, n)) r.0 r.1 in
+    record {
+      tree = t.0;
+      code = c;
+      accepted = e;
+      written = t.1;
+      places = h;
+      fits = m.0;
+      cells = m.1;
+      depth = m.2;
+      answers = m.4;
+      left = m.3;
+      kept = rw m.3 (k xs);
+      each = λ front _ _. k front;
+    }

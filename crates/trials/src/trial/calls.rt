@@ -1,5 +1,6 @@
 // A trial is made and run.
-ghost use Rattle.std.specs.Prelude.{◌≡◌, ◌≤◌, length};
+ghost use Rattle.std.specs.Prelude.{◌≡◌, ◌≤◌, [], length, IfOk};
+ghost use Rattle.checks.specs.Works.{holds, nodes_of, nothing};
 ghost use Rattle.trials.specs.Trials.{Readies, Makes, Tries};
 
 use crate::fault::TrialFault;
@@ -39,7 +40,9 @@ fn make<S: Store>(
 
 impl Trial {
     // The only call that asks for memory.
-    pub fn new(heap: Global) -> Result<Trial, AllocError> {
+    pub fn new(heap: Global) -> Result<Trial, AllocError>
+        ensures { IfOk result (λ t. (holds t.compiler.workspace ≡ nothing) × (nodes_of t.compiler.workspace ≡ [])) }
+    {
         Ok(Trial {
             compiler: Compiler::new(heap)?,
             table: vec![in heap; Instr::default(); 16383]?,
