@@ -5,7 +5,7 @@ use Rattle.trees.specs.Trees.{Program}
 use Rattle.typed.specs.Code.{program, depth}
 use Rattle.checks.specs.Names.{program_table}
 use Rattle.checks.specs.Writing.{resolve}
-use Rattle.code.specs.Compile.{Code, compiled, CompiledTree}
+use Rattle.code.specs.Compile.{Code, CompiledTree}
 use Rattle.code.proofs.Exact.{tree_of}
 use Rattle.machine.specs.Machine.{state}
 use Rattle.session.specs.declared.call.Call.{Call}
@@ -48,7 +48,7 @@ tried source xs st st' σ σ' a a' l x h e m =
     let r = roomy c.cells c.depth (length c.instrs) (length st) (length σ) m.0 in
     let n : length c.instrs ≤ min 16383 16383 = t.2 in
     let k : (ys : List Call) → Promise (resolve t.0) c.cells st σ (limits ys) (played c.cells c.depth c.instrs ys (state begun st σ)) =
-        λ ys. promised source t.0 c st σ ys t.1 (omega (arith, n)) r.0 r.1 in
+    λ ys. promised source t.0 c st σ ys t.1 (omega (arith, n)) r.0 r.1 in
     record {
       tree = t.0;
       code = c;
