@@ -11,6 +11,7 @@ pub struct Field {
 }
 
 impl Field {
+    #[inline(always)]
     pub fn new(from: u16, count: u16) -> Option<Field>
         ensures { MatchOption result (is_field from count ≡ false) (λ f. (is_field from count ≡ true) × (f.from ≡ from) × (f.count ≡ count)) }
     {
@@ -21,6 +22,7 @@ impl Field {
     }
 
     // Those bits of x.
+    #[inline(always)]
     pub fn extract(self, x: u16) -> u16
         ensures { result ≡ field self.from self.count x }
     {
@@ -28,6 +30,7 @@ impl Field {
     }
 
     // x with those bits replaced by v's lowest.
+    #[inline(always)]
     pub fn deposit(self, x: u16, v: u16) -> u16
         ensures { result ≡ deposited self.from self.count x v }
     {

@@ -10,6 +10,7 @@ const LEAST: i32 = -32768;
 const GREATEST: i32 = 32767;
 
 // The INTEGER that a word is. This and the next are in the definitions' two cases, which the library's casts do not show.
+#[inline(always)]
 pub fn value(w: u16) -> i32
     ensures exact { result ≡ int w }
     ensures small { Small result }
@@ -22,6 +23,7 @@ pub fn value(w: u16) -> i32
 }
 
 // The word that an INTEGER is.
+#[inline(always)]
 pub fn fit(v: i32) -> Result<u16, Stop>
     ensures { result ≡ fitted v }
 {
@@ -36,18 +38,21 @@ pub fn fit(v: i32) -> Result<u16, Stop>
 }
 
 // This and the next two are one line each, and their definitions are three: a function over the operation would hide it.
+#[inline(always)]
 pub fn add(y: u16, x: u16) -> Result<u16, Stop>
     ensures { result ≡ sum y x }
 {
     fit(value(y) + value(x))
 }
 
+#[inline(always)]
 pub fn sub(y: u16, x: u16) -> Result<u16, Stop>
     ensures { result ≡ difference y x }
 {
     fit(value(y) - value(x))
 }
 
+#[inline(always)]
 pub fn mul(y: u16, x: u16) -> Result<u16, Stop>
     ensures { result ≡ product y x }
 {
@@ -55,6 +60,7 @@ pub fn mul(y: u16, x: u16) -> Result<u16, Stop>
 }
 
 // Not by `checked_div` in this and `checked_rem` in the next: they would stand inside `fit(..)`, and be no plainer.
+#[inline(always)]
 pub fn div(y: u16, x: u16) -> Result<u16, Stop>
     ensures { result ≡ quotient y x }
 {
@@ -64,6 +70,7 @@ pub fn div(y: u16, x: u16) -> Result<u16, Stop>
     fit(value(y) / value(x))
 }
 
+#[inline(always)]
 pub fn rem(y: u16, x: u16) -> Result<u16, Stop>
     ensures { result ≡ remainder y x }
 {
@@ -73,6 +80,7 @@ pub fn rem(y: u16, x: u16) -> Result<u16, Stop>
     fit(value(y) % value(x))
 }
 
+#[inline(always)]
 pub fn neg(x: u16) -> Result<u16, Stop>
     ensures { result ≡ negation x }
 {
@@ -80,6 +88,7 @@ pub fn neg(x: u16) -> Result<u16, Stop>
 }
 
 // A word below 32,768 is not negative, so that the words compare as the INTEGERs do.
+#[inline(always)]
 fn within(i: u16, n: u16) -> bool
     ensures { result ≡ within_of i n }
 {
@@ -87,6 +96,7 @@ fn within(i: u16, n: u16) -> bool
 }
 
 // i, if it is one of the first n numbers from 0.
+#[inline(always)]
 fn below(i: u16, n: u16, past: Stop) -> Result<u16, Stop>
     ensures { result ≡ below_of past i n }
 {
@@ -95,6 +105,7 @@ fn below(i: u16, n: u16, past: Stop) -> Result<u16, Stop>
 
 // The subscript i of an array of n cells.
 #[tactic(auto, unfolding(crate::specs::Integers::subscript))]
+#[inline(always)]
 pub fn subscript(i: u16, n: u16) -> Result<u16, Stop>
     ensures { result ≡ subscript_of i n }
 {
@@ -103,6 +114,7 @@ pub fn subscript(i: u16, n: u16) -> Result<u16, Stop>
 
 // The index i of a CASE of n statements.
 #[tactic(auto, unfolding(crate::specs::Integers::chosen))]
+#[inline(always)]
 pub fn chosen(i: u16, n: u16) -> Result<u16, Stop>
     ensures { result ≡ chosen_of i n }
 {
@@ -111,6 +123,7 @@ pub fn chosen(i: u16, n: u16) -> Result<u16, Stop>
 
 // Whether a FOR takes another turn.
 #[tactic(auto, unfolding(crate::specs::Integers::turns))]
+#[inline(always)]
 pub fn turns(variable: u16, step: u16, limit: u16) -> bool
     ensures { result ≡ turns_of variable step limit }
 {

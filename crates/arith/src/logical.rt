@@ -6,6 +6,7 @@ ghost use Rattle.arith.specs.Logicals.{odd as odd_of, truth as truth_of};
 use super::stop::Stop;
 
 #[tactic(auto, unfolding(crate::specs::Logicals::lsum))]
+#[inline(always)]
 pub fn add(y: u16, x: u16) -> u16
     ensures { result ≡ lsum y x }
 {
@@ -13,6 +14,7 @@ pub fn add(y: u16, x: u16) -> u16
 }
 
 #[tactic(auto, unfolding(crate::specs::Logicals::ldifference))]
+#[inline(always)]
 pub fn sub(y: u16, x: u16) -> u16
     ensures { result ≡ ldifference y x }
 {
@@ -20,6 +22,7 @@ pub fn sub(y: u16, x: u16) -> u16
 }
 
 #[tactic(auto, unfolding(crate::specs::Logicals::lproduct))]
+#[inline(always)]
 pub fn mul(y: u16, x: u16) -> u16
     ensures { result ≡ lproduct y x }
 {
@@ -27,6 +30,7 @@ pub fn mul(y: u16, x: u16) -> u16
 }
 
 #[tactic(auto, unfolding(crate::specs::Logicals::lquotient))]
+#[inline(always)]
 pub fn div(y: u16, x: u16) -> Result<u16, Stop>
     ensures { result ≡ lquotient y x }
 {
@@ -34,6 +38,7 @@ pub fn div(y: u16, x: u16) -> Result<u16, Stop>
 }
 
 #[tactic(auto, unfolding(crate::specs::Logicals::lremainder))]
+#[inline(always)]
 pub fn rem(y: u16, x: u16) -> Result<u16, Stop>
     ensures { result ≡ lremainder y x }
 {
@@ -41,6 +46,7 @@ pub fn rem(y: u16, x: u16) -> Result<u16, Stop>
 }
 
 // TRUE or FALSE.
+#[inline(always)]
 pub fn truth(t: bool) -> u16
     ensures { result ≡ truth_of t }
 {
@@ -49,6 +55,7 @@ pub fn truth(t: bool) -> u16
 
 // Whether a word counts as true in a condition.
 #[tactic(auto, unfolding(crate::specs::Logicals::odd))]
+#[inline(always)]
 pub fn odd(w: u16) -> bool
     ensures { result ≡ odd_of w }
 {

@@ -34,6 +34,7 @@ impl TryFrom<u16> for Relation {
 
     ghost try_from_gives = { λ number r. MatchResult r (λ by. relation_at number ≡ Some by) (λ _. relation_at number ≡ None) };
 
+    #[inline(always)]
     fn try_from(number: u16) -> Result<Relation, UnknownRelation> {
         match number {
             0 => Ok(Relation::Equal),
@@ -50,6 +51,7 @@ impl TryFrom<u16> for Relation {
 impl Relation {
     // Whether it holds, where it is known whether the left is less, and whether both are the same: the definition asks these
     // two.
+    #[inline(always)]
     fn holds(self, less: bool, same: bool) -> bool
         ensures { result ≡ holds_of self less same }
     {
@@ -66,6 +68,7 @@ impl Relation {
 
 // INTEGERs. This and the next are one line each over `holds`: a function over how words are read would be longer.
 #[tactic(auto, unfolding(crate::specs::Relations::compared))]
+#[inline(always)]
 pub fn compare(by: Relation, y: u16, x: u16) -> u16
     ensures { result ≡ compared by y x }
 {
@@ -74,6 +77,7 @@ pub fn compare(by: Relation, y: u16, x: u16) -> u16
 
 // LOGICALs.
 #[tactic(auto, unfolding(crate::specs::Relations::lcompared))]
+#[inline(always)]
 pub fn compare_logical(by: Relation, y: u16, x: u16) -> u16
     ensures { result ≡ lcompared by y x }
 {

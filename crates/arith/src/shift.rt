@@ -31,6 +31,7 @@ impl TryFrom<u16> for Kind {
 
     ghost try_from_gives = { λ number r. MatchResult r (λ kind. (number ≤ 4) × (kind ≡ kind_of number)) (λ _. 4 < number) };
 
+    #[inline(always)]
     fn try_from(number: u16) -> Result<Kind, UnknownShift> {
         match number {
             0 => Ok(Kind::Lsl),
@@ -54,6 +55,7 @@ pub struct Shift {
 impl Shift {
     // The shift whose kind has the number, which is at most 4. Its callers bring the two words of an instruction:
     // with a `Kind` they would first have to make one, which is no plainer.
+    #[inline(always)]
     pub fn new(number: u16, count: u16) -> Option<Shift>
         ensures { MatchOption result (is_shift number count ≡ false) (λ s. (is_shift number count ≡ true) × (s.kind ≡ kind_of number) × (s.count ≡ count)) }
     {
@@ -66,6 +68,7 @@ impl Shift {
         }
     }
 
+    #[inline(always)]
     pub fn apply(self, x: u16) -> u16
         ensures { result ≡ shifted self.kind self.count x }
     {

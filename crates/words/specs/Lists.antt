@@ -1,5 +1,5 @@
 -- What a bounded list stands for, and what each method does to it.
-use Rattle.std.specs.Prelude.{◌≡◌, ℕ, ◌+◌, ◌<◌, ◌≤◌, List, [], ◌∷◌, ◌++◌, length, take, Some, None, Ok, Err, Option, Result, slice_set}
+use Rattle.std.specs.Prelude.{◌≡◌, ℕ, ◌+◌, ◌-◌, ◌<◌, ◌≤◌, List, [], ◌∷◌, ◌++◌, length, take, Some, None, Ok, Err, Option, Result, slice_set}
 use Rattle.words.specs.declared.list.Bounded.{Bounded}
 
 module _ {X : Type 0} where
@@ -28,6 +28,10 @@ module _ {X : Type 0} where
   abbrev pub Popped : Bounded X → Bounded X → Option X → Type 0
   Popped b d None = (b.len ≡ 0) × Same b d
   Popped b d (Some x) = (held b ≡ held d ++ x ∷ []) × (d.len + 1 ≡ b.len) × (room d ≡ room b) × Lends b d
+
+  -- the last n elements are taken, or all where there are fewer, and no cell changes
+  abbrev pub Cut : Bounded X → ℕ → Bounded X → Type 0
+  Cut b n d = (held d ≡ take (b.len - n) (held b)) × (d.len ≡ b.len - n) × (room d ≡ room b) × Lends b d
 
   -- x stands at i; or the list is no longer than i
   abbrev pub Changed : {U : Type 0} → Bounded X → ℕ → X → Bounded X → Result U ℕ → Type 0

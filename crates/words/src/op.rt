@@ -44,7 +44,8 @@ pub enum Op {
     Next,
 }
 
-const OPS: [Op; 34] = [
+// No constant: that would be copied at each look.
+static OPS: [Op; 34] = [
     Op::Halt,
     Op::Lit,
     Op::Load,
@@ -100,6 +101,7 @@ impl TryFrom<u16> for Op {
     ghost try_from_gives = { λ number r. MatchResult r (λ op. slice_get ops number ≡ Some op) (λ _. slice_get ops number ≡ None) };
 
     // Not by `get` on the constant table: tried, and the proof did not close.
+    #[inline(always)]
     fn try_from(number: u16) -> Result<Op, UnknownOp> {
         if number > 33 {
             return Err(UnknownOp(number));

@@ -34,6 +34,7 @@ impl From<StoreFault> for Refusal {
 const MOST: usize = 65535;
 
 // A store of this size has the cell.
+#[inline(always)]
 fn within(cell: u16, size: u16) -> Result<(), StoreFault>
     ensures { MatchResult result (λ _. cell < size) (λ e. (e ≡ NoCell cell) × (size ≤ cell)) }
 {

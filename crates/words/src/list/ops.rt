@@ -1,6 +1,6 @@
 // What a bounded list does. Its lender learns from `room` what each cell holds afterwards.
-ghost use Rattle.std.specs.Prelude.{◌≡◌, ◌<◌, ◌≤◌, [], length, MatchOption, slice_index_or};
-ghost use Rattle.words.specs.Lists.{held, room, Pushed, Popped, Changed};
+ghost use Rattle.std.specs.Prelude.{◌≡◌, ◌-◌, ◌<◌, ◌≤◌, [], length, take, MatchOption, slice_index_or};
+ghost use Rattle.words.specs.Lists.{held, room, Pushed, Popped, Cut, Changed};
 
 use super::Bounded;
 
@@ -15,6 +15,19 @@ impl<'a, T: Copy> Bounded<'a, T> {
         Bounded { cells, len: 0 }
     }
 
+    // The list of the first `len` cells, as they stand; of all, where there are fewer.
+    #[inline(always)]
+    pub fn of_first(cells: &'a mut [T], len: usize) -> Bounded<'a, T>
+        ensures held { held result ≡ take len cells.old }
+        ensures len { len ≤ length cells.old → result.len ≡ len }
+        ensures room { room result ≡ cells.old }
+        ensures lends { result.cells.ghost_name ≡ cells.entry.ghost_name }
+    {
+        let len = len.min(cells.len());
+        Bounded { cells, len }
+    }
+
+    #[inline(always)]
     pub fn len(&self) -> usize
         ensures value { result ≡ self.now.len }
         ensures held { result ≡ length (held self.now) }
@@ -23,6 +36,7 @@ impl<'a, T: Copy> Bounded<'a, T> {
     }
 
     // Adds at the end; where every cell is taken, refuses with their number and changes nothing.
+    #[inline(always)]
     pub fn push(&mut self, x: T) -> Result<(), usize>
         ensures { Pushed self.old x self.new result }
     {
@@ -43,6 +57,25 @@ impl<'a, T: Copy> Bounded<'a, T> {
         }
         self.len -= 1;
         Some(self.cells[self.len])
+    }
+
+    // Takes the last `n` elements off, all where there are fewer; their cells keep what they held.
+    #[inline(always)]
+    pub fn cut(&mut self, n: usize)
+        ensures { Cut self.old n self.new }
+    {
+        self.len = self.len.saturating_sub(n);
+    }
+
+    // The k-th element from the end, from 0.
+    #[inline(always)]
+    pub fn peek(&self, k: usize) -> Option<T>
+        ensures { MatchOption result (length (held self.now) ≤ k) (λ x. (k < length (held self.now)) × (x ≡ slice_index_or (held self.now) (length (held self.now) - 1 - k) x)) }
+    {
+        if k >= self.len {
+            return None;
+        }
+        Some(self.cells[self.len - 1 - k])
     }
 
     // The element at `i`. The contract tells the two cases that the test tells: by the slice's own `get` it would be no

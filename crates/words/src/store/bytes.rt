@@ -14,6 +14,7 @@ pub struct Bytes<'a> {
 }
 
 // The word that begins at the byte `i`, as the definition puts it together.
+#[inline(always)]
 fn at(cells: &[u8], i: usize) -> u16
     requires { i + 1 < length cells.now }
     ensures { result ≡ pair (slice_index cells.now i) (slice_index cells.now (i + 1)) }
@@ -21,6 +22,7 @@ fn at(cells: &[u8], i: usize) -> u16
     cells[i] as u16 * 256 + cells[i + 1] as u16
 }
 
+#[inline(always)]
 fn put(cells: &mut [u8], i: usize, w: u16)
     requires { i + 1 < length cells.old }
     ensures { cells.new ≡ slice_set (slice_set cells.old i (w / 256)) (i + 1) (w % 256) }
@@ -42,15 +44,18 @@ impl<'a> Store for Bytes<'a> {
 
     ghost goes = { λ s t u p q. (q.0 ∙ p.0, q.1 ∙ p.1) };
 
+    #[inline(always)]
     fn size(&self) -> u16 {
         MOST.min(self.cells.len() / 2) as u16
     }
 
+    #[inline(always)]
     fn read(&self, cell: u16) -> Result<u16, StoreFault> {
         within(cell, self.size())?;
         Ok(at(self.cells, 2 * cell as usize))
     }
 
+    #[inline(always)]
     fn write(&mut self, cell: u16, w: u16) -> Result<(), StoreFault> {
         within(cell, self.size())?;
         put(self.cells, 2 * cell as usize, w);

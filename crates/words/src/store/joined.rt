@@ -22,6 +22,7 @@ pub enum Half {
 }
 
 // The first store has `m` cells.
+#[inline(always)]
 fn which_half(cell: u16, m: u16) -> Half
     ensures { result ≡ half_of cell m }
 {
@@ -45,10 +46,12 @@ impl<'a, 'b, X: Store, Y: Store> Store for Joined<'a, 'b, X, Y> {
 
     ghost goes = { λ s t u p q. (q.0 ∙ p.0, q.1 ∙ p.1, X.Store.goes s.first.now t.first.now u.first.now p.2 q.2, Y.Store.goes s.second.now t.second.now u.second.now p.3 q.3) };
 
+    #[inline(always)]
     fn size(&self) -> u16 {
         self.first.size().saturating_add(self.second.size())
     }
 
+    #[inline(always)]
     fn read(&self, cell: u16) -> Result<u16, StoreFault> {
         within(cell, self.size())?;
         match which_half(cell, self.first.size()) {
@@ -57,6 +60,7 @@ impl<'a, 'b, X: Store, Y: Store> Store for Joined<'a, 'b, X, Y> {
         }
     }
 
+    #[inline(always)]
     fn write(&mut self, cell: u16, w: u16) -> Result<(), StoreFault> {
         within(cell, self.size())?;
         match which_half(cell, self.first.size()) {

@@ -12,6 +12,7 @@ pub struct Words<'a> {
     pub cells: &'a mut [u16],
 }
 
+#[inline(always)]
 fn at(cells: &[u16], i: usize) -> u16
     requires { i < length cells.now }
     ensures { result ≡ slice_index cells.now i }
@@ -19,6 +20,7 @@ fn at(cells: &[u16], i: usize) -> u16
     cells[i]
 }
 
+#[inline(always)]
 fn put(cells: &mut [u16], i: usize, w: u16)
     requires { i < length cells.old }
     ensures { cells.new ≡ slice_set cells.old i w }
@@ -39,15 +41,18 @@ impl<'a> Store for Words<'a> {
 
     ghost goes = { λ s t u p q. (q.0 ∙ p.0, q.1 ∙ p.1) };
 
+    #[inline(always)]
     fn size(&self) -> u16 {
         MOST.min(self.cells.len()) as u16
     }
 
+    #[inline(always)]
     fn read(&self, cell: u16) -> Result<u16, StoreFault> {
         within(cell, self.size())?;
         Ok(at(self.cells, cell as usize))
     }
 
+    #[inline(always)]
     fn write(&mut self, cell: u16, w: u16) -> Result<(), StoreFault> {
         within(cell, self.size())?;
         put(self.cells, cell as usize, w);
