@@ -29,7 +29,7 @@ module _ {X : Type 0} where
   Popped b d None = (b.len ≡ 0) × Same b d
   Popped b d (Some x) = (held b ≡ held d ++ x ∷ []) × (d.len + 1 ≡ b.len) × (room d ≡ room b) × Lends b d
 
-  -- the last n elements are taken, or all where there are fewer, and no cell changes
+  -- the last n elements are taken, and no cell changes
   abbrev pub Cut : Bounded X → ℕ → Bounded X → Type 0
   Cut b n d = (held d ≡ take (b.len - n) (held b)) × (d.len ≡ b.len - n) × (room d ≡ room b) × Lends b d
 

@@ -44,44 +44,6 @@ pub enum Op {
     Next,
 }
 
-// No constant: that would be copied at each look.
-static OPS: [Op; 34] = [
-    Op::Halt,
-    Op::Lit,
-    Op::Load,
-    Op::Stor,
-    Op::Ldx,
-    Op::Stx,
-    Op::Chk,
-    Op::Dup,
-    Op::Drop,
-    Op::Add,
-    Op::Sub,
-    Op::Mul,
-    Op::Div,
-    Op::Rem,
-    Op::Neg,
-    Op::Ladd,
-    Op::Lsub,
-    Op::Lmul,
-    Op::Ldiv,
-    Op::Lrem,
-    Op::Cmp,
-    Op::Lcmp,
-    Op::And,
-    Op::Or,
-    Op::Xor,
-    Op::Not,
-    Op::Fld,
-    Op::Dep,
-    Op::Shf,
-    Op::Br,
-    Op::Bre,
-    Op::Case,
-    Op::For,
-    Op::Next,
-];
-
 impl From<Op> for u16 {
     ghost from_gives = { λ op r. r ≡ number_of op };
 
@@ -100,13 +62,45 @@ impl TryFrom<u16> for Op {
 
     ghost try_from_gives = { λ number r. MatchResult r (λ op. slice_get ops number ≡ Some op) (λ _. slice_get ops number ≡ None) };
 
-    // Not by `get` on the constant table: tried, and the proof did not close.
     #[inline(always)]
     fn try_from(number: u16) -> Result<Op, UnknownOp> {
-        if number > 33 {
-            return Err(UnknownOp(number));
+        match number {
+            0 => Ok(Op::Halt),
+            1 => Ok(Op::Lit),
+            2 => Ok(Op::Load),
+            3 => Ok(Op::Stor),
+            4 => Ok(Op::Ldx),
+            5 => Ok(Op::Stx),
+            6 => Ok(Op::Chk),
+            7 => Ok(Op::Dup),
+            8 => Ok(Op::Drop),
+            9 => Ok(Op::Add),
+            10 => Ok(Op::Sub),
+            11 => Ok(Op::Mul),
+            12 => Ok(Op::Div),
+            13 => Ok(Op::Rem),
+            14 => Ok(Op::Neg),
+            15 => Ok(Op::Ladd),
+            16 => Ok(Op::Lsub),
+            17 => Ok(Op::Lmul),
+            18 => Ok(Op::Ldiv),
+            19 => Ok(Op::Lrem),
+            20 => Ok(Op::Cmp),
+            21 => Ok(Op::Lcmp),
+            22 => Ok(Op::And),
+            23 => Ok(Op::Or),
+            24 => Ok(Op::Xor),
+            25 => Ok(Op::Not),
+            26 => Ok(Op::Fld),
+            27 => Ok(Op::Dep),
+            28 => Ok(Op::Shf),
+            29 => Ok(Op::Br),
+            30 => Ok(Op::Bre),
+            31 => Ok(Op::Case),
+            32 => Ok(Op::For),
+            33 => Ok(Op::Next),
+            _ => Err(UnknownOp(number)),
         }
-        Ok(OPS[number as usize])
     }
 }
 

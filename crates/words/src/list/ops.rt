@@ -59,12 +59,13 @@ impl<'a, T: Copy> Bounded<'a, T> {
         Some(self.cells[self.len])
     }
 
-    // Takes the last `n` elements off, all where there are fewer; their cells keep what they held.
+    // Takes the last `n` elements off; their cells keep what they held.
     #[inline(always)]
     pub fn cut(&mut self, n: usize)
+        requires { n ≤ length (held self.old) }
         ensures { Cut self.old n self.new }
     {
-        self.len = self.len.saturating_sub(n);
+        self.len -= n;
     }
 
     // The k-th element from the end, from 0.
