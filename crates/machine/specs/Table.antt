@@ -78,9 +78,12 @@ fine Next a b = true
 abbrev pub wants : Op → ℕ → ℕ
 wants o a = taken_by o a
 
--- the operands are in order, and the words are there
+-- the operands are in order (or not), and n words are there
+abbrev pub held : Bool → ℕ → ℕ → Result (Unit {0}) Ending
+held f n h = cond f (cond (nat_le n h) (Ok tt) (Err Missing)) (Err BadOperand)
+
 abbrev pub readied : Op → ℕ → ℕ → ℕ → Result (Unit {0}) Ending
-readied o a b h = cond (fine o a b) (cond (nat_le (wants o a) h) (Ok tt) (Err Missing)) (Err BadOperand)
+readied o a b h = held (fine o a b) (wants o a) h
 
 -- the word of a cell
 abbrev pub cell_of : List ℕ → ℕ → Result ℕ Ending

@@ -3,6 +3,7 @@ ghost use Rattle.std.specs.Prelude.{◌≡◌};
 ghost use Rattle.machine.specs.declared.ending.Ending.TheVariants.{Stopped, BadOperand, Outside};
 ghost use Rattle.machine.specs.Endings.{number_of};
 
+use arith::relation::UnknownRelation;
 use arith::stop::Stop;
 use thiserror::Error;
 use words::op::UnknownOp;
@@ -54,6 +55,14 @@ impl From<UnknownOp> for Ending {
     ghost from_gives = { λ _ r. r ≡ BadOperand };
 
     fn from(_e: UnknownOp) -> Ending {
+        Ending::BadOperand
+    }
+}
+
+impl From<UnknownRelation> for Ending {
+    ghost from_gives = { λ _ r. r ≡ BadOperand };
+
+    fn from(_e: UnknownRelation) -> Ending {
         Ending::BadOperand
     }
 }

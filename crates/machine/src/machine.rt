@@ -1,26 +1,31 @@
 // A machine that can make steps.
-ghost use Rattle.std.specs.Prelude.{◌≤◌, length};
+ghost use Rattle.std.specs.Prelude.{◌<◌, ◌≤◌, length};
+ghost use Rattle.words.specs.Lists.{room};
 
-use super::vm::Vm;
+use super::ending::Ending;
 use words::instr::Instr;
+use words::list::Bounded;
 
 mod steps;
 
 // The steps of a machine at most.
 pub const LIMIT: u64 = 4000000000;
 
-// Its code, the depth of its stack, the words lent for that, its store, and the registers. How many words are stacked is a
-// register, which every report tells, and no length of a list beside them.
+// Its code, the depth of its stack, the words stacked, its store, and the other registers. The height is the length of the list.
 #[derive(Drop)]
-pub struct Machine<'a, 'b, 'c, S> {
+pub struct Machine<'a, 'b, 'c, 'd, S> {
     pub code: &'a [Instr],
     pub depth: u16,
-    pub stack: &'b mut [u16],
-    pub store: &'c mut S,
-    pub vm: Vm,
+    pub stack: &'b mut Bounded<'c, u16>,
+    pub store: &'d mut S,
+    pub place: u32,
+    pub steps: u64,
+    pub writes: u64,
+    pub ending: Option<Ending>,
+    ghost deep: { depth < 65536 },
     ghost short: { length code.now ≤ 16383 },
-    ghost room: { depth ≤ length stack.now },
-    ghost low: { vm.height ≤ depth },
-    ghost counted: { vm.writes ≤ vm.steps },
-    ghost within: { vm.steps ≤ 4000000000 },
+    ghost room: { depth ≤ length (room stack.now) },
+    ghost low: { stack.now.len ≤ depth },
+    ghost counted: { writes ≤ steps },
+    ghost within: { steps ≤ 4000000000 },
 }

@@ -5,6 +5,7 @@ ghost use Rattle.machine.specs.Machine.{state, run as run_of, able_for, Steps};
 use super::machine::{LIMIT, Machine};
 use super::vm::Vm;
 use words::instr::Instr;
+use words::list::Bounded;
 use words::store::Store;
 
 // Makes `steps` steps from the registers `vm`, fewer only if the run ends, and answers the registers after them. There is
@@ -27,13 +28,17 @@ pub fn run<S: Store>(
     if steps > LIMIT || vm.steps > LIMIT - steps || vm.writes > vm.steps {
         return None;
     }
+    let mut list = Bounded::of_first(stack, usize::from(vm.height));
     let mut machine = Machine {
         code,
         depth,
-        stack,
+        stack: &mut list,
         store,
-        vm,
+        place: vm.place,
+        steps: vm.steps,
+        writes: vm.writes,
+        ending: vm.ending,
     };
     machine.run(steps);
-    Some(machine.vm)
+    Some(machine.registers())
 }

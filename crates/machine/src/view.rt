@@ -1,7 +1,8 @@
 // What an instruction looks at, and what it does.
-ghost use Rattle.std.specs.Prelude.{◌≡◌, ◌<◌, true};
+ghost use Rattle.std.specs.Prelude.{◌≡◌, ◌-◌, ◌<◌, ◌≤◌, IfOk, slice_index};
+ghost use Rattle.words.specs.Lists.{room};
 ghost use Rattle.machine.specs.declared.vm.Move.TheVariants.{On, Push, Write};
-ghost use Rattle.machine.specs.Table.{fine, cell_of, act};
+ghost use Rattle.machine.specs.Table.{held, cell_of, row as row_of};
 
 use super::ending::Ending;
 use super::vm::Move;
@@ -11,36 +12,36 @@ use arith::integer::{self, chosen, subscript, turns};
 use arith::logical::{self, odd};
 use arith::relation::{Relation, compare, compare_logical};
 use arith::shift::Shift;
+use words::list::Bounded;
 use words::op::Op;
 use words::store::Store;
 
-// An instruction whose operands are in order, its place, the word at the top of the stack and the one below it, and the
-// store. One that looks at a word comes here only where that word is stacked.
+// The operands of an instruction, its place, the stacked words, and the store.
 #[derive(Drop)]
-pub struct View<'a, S> {
-    pub op: Op,
+pub struct View<'a, 'b, 'c, S> {
     pub a: u16,
     pub b: u16,
     pub place: u32,
-    pub top: u16,
-    pub below: u16,
-    pub store: &'a S,
-    ghost fits: { fine op a b ≡ true },
+    pub stack: &'a Bounded<'b, u16>,
+    pub store: &'c S,
     ghost near: { place < 65536 },
 }
 
+#[inline(always)]
 fn on(pops: u16, place: u32) -> Move
     ensures { result ≡ On pops place }
 {
     Move::On { pops, place }
 }
 
+#[inline(always)]
 fn push(pops: u16, word: u16) -> Move
     ensures { result ≡ Push pops word }
 {
     Move::Push { pops, word }
 }
 
+#[inline(always)]
 fn write(pops: u16, cell: u32, word: u16, place: u32) -> Move
     ensures { result ≡ Write pops cell word place }
 {
@@ -52,7 +53,41 @@ fn write(pops: u16, cell: u32, word: u16, place: u32) -> Move
     }
 }
 
-impl<S: Store> View<'_, S> {
+impl<S: Store> View<'_, '_, '_, S> {
+    // The word at the top of the stack.
+    #[inline(always)]
+    fn top(&self) -> u16
+        requires { 1 ≤ self.now.stack.now.len }
+        ensures { result ≡ slice_index (room self.now.stack.now) (self.now.stack.now.len - 1) }
+    {
+        self.stack.peek(0).unwrap()
+    }
+
+    // The word below it.
+    #[inline(always)]
+    fn below(&self) -> u16
+        requires { 2 ≤ self.now.stack.now.len }
+        ensures { result ≡ slice_index (room self.now.stack.now) (self.now.stack.now.len - 2) }
+    {
+        self.stack.peek(1).unwrap()
+    }
+
+    // Whether the operands fit, and then whether so many words are there.
+    #[inline(always)]
+    fn holds(&self, fits: bool, words: u16) -> Result<(), Ending>
+        ensures gives { result ≡ held fits words self.now.stack.now.len }
+        ensures there { IfOk result (λ _. words ≤ self.now.stack.now.len) }
+    {
+        if !fits {
+            return Err(Ending::BadOperand);
+        }
+        if self.stack.len() < usize::from(words) {
+            return Err(Ending::Missing);
+        }
+        Ok(())
+    }
+
+    #[inline(always)]
     fn cell(&self, c: u32) -> Result<u16, Ending>
         ensures { result ≡ cell_of (S.Store.words self.now.store.now) c }
     {
@@ -62,74 +97,168 @@ impl<S: Store> View<'_, S> {
 
     // The move that it makes, or the ending. No closures: with `?` an operation's call is its row, and a table of functions
     // would be no plainer.
-    pub fn work(&self) -> Result<Move, Ending>
-        ensures { result ≡ act self.now.op self.now.a self.now.b self.now.place self.now.top self.now.below (S.Store.words self.now.store.now) }
+    #[inline(always)]
+    pub fn row(&self, op: Op) -> Result<Move, Ending>
+        ensures { result ≡ row_of op self.now.a self.now.b self.now.place self.now.stack.now.len (room self.now.stack.now) (S.Store.words self.now.store.now) }
     {
         let a = self.a;
         let b = self.b;
-        let x = self.top;
-        let y = self.below;
         let next = self.place + 1;
-        match self.op {
-            Op::Halt => Err(Ending::Halted),
-            Op::Lit => Ok(push(0, a)),
-            Op::Load => Ok(push(0, self.cell(u32::from(a))?)),
-            Op::Stor => Ok(write(1, u32::from(a), x, next)),
+        let single = b == 0;
+        let plain = a == 0 && b == 0;
+        match op {
+            Op::Halt => {
+                self.holds(plain, 0)?;
+                Err(Ending::Halted)
+            }
+            Op::Lit => {
+                self.holds(single, 0)?;
+                Ok(push(0, a))
+            }
+            Op::Load => {
+                self.holds(single, 0)?;
+                Ok(push(0, self.cell(u32::from(a))?))
+            }
+            Op::Stor => {
+                self.holds(single, 1)?;
+                Ok(write(1, u32::from(a), self.top(), next))
+            }
             Op::Ldx => {
-                let i = subscript(x, b)?;
+                self.holds(true, 1)?;
+                let i = subscript(self.top(), b)?;
                 Ok(push(1, self.cell(u32::from(a) + u32::from(i))?))
             }
             Op::Stx => {
-                let i = subscript(y, b)?;
-                Ok(write(2, u32::from(a) + u32::from(i), x, next))
+                self.holds(true, 2)?;
+                let i = subscript(self.below(), b)?;
+                Ok(write(2, u32::from(a) + u32::from(i), self.top(), next))
             }
             Op::Chk => {
-                subscript(x, a)?;
+                self.holds(single, 1)?;
+                subscript(self.top(), a)?;
                 Ok(on(0, next))
             }
-            Op::Dup => Ok(push(0, x)),
-            Op::Drop => Ok(on(a, next)),
-            Op::Add => Ok(push(2, integer::add(y, x)?)),
-            Op::Sub => Ok(push(2, integer::sub(y, x)?)),
-            Op::Mul => Ok(push(2, integer::mul(y, x)?)),
-            Op::Div => Ok(push(2, integer::div(y, x)?)),
-            Op::Rem => Ok(push(2, integer::rem(y, x)?)),
-            Op::Neg => Ok(push(1, integer::neg(x)?)),
-            Op::Ladd => Ok(push(2, logical::add(y, x))),
-            Op::Lsub => Ok(push(2, logical::sub(y, x))),
-            Op::Lmul => Ok(push(2, logical::mul(y, x))),
-            Op::Ldiv => Ok(push(2, logical::div(y, x)?)),
-            Op::Lrem => Ok(push(2, logical::rem(y, x)?)),
-            Op::Cmp => Ok(push(2, compare(Relation::try_from(a).unwrap(), y, x))),
-            Op::Lcmp => Ok(push(2, compare_logical(Relation::try_from(a).unwrap(), y, x))),
-            Op::And => Ok(push(2, bits::and(y, x))),
-            Op::Or => Ok(push(2, bits::or(y, x))),
-            Op::Xor => Ok(push(2, bits::xor(y, x))),
-            Op::Not => Ok(push(1, bits::complement(x))),
-            Op::Fld => Ok(push(1, Field::new(a, b).unwrap().extract(x))),
-            Op::Dep => Ok(push(2, Field::new(a, b).unwrap().deposit(y, x))),
-            Op::Shf => Ok(push(1, Shift::new(a, b).unwrap().apply(x))),
-            Op::Br => Ok(on(0, u32::from(a))),
+            Op::Dup => {
+                self.holds(plain, 1)?;
+                Ok(push(0, self.top()))
+            }
+            Op::Drop => {
+                self.holds(single, a)?;
+                Ok(on(a, next))
+            }
+            Op::Add => {
+                self.holds(plain, 2)?;
+                Ok(push(2, integer::add(self.below(), self.top())?))
+            }
+            Op::Sub => {
+                self.holds(plain, 2)?;
+                Ok(push(2, integer::sub(self.below(), self.top())?))
+            }
+            Op::Mul => {
+                self.holds(plain, 2)?;
+                Ok(push(2, integer::mul(self.below(), self.top())?))
+            }
+            Op::Div => {
+                self.holds(plain, 2)?;
+                Ok(push(2, integer::div(self.below(), self.top())?))
+            }
+            Op::Rem => {
+                self.holds(plain, 2)?;
+                Ok(push(2, integer::rem(self.below(), self.top())?))
+            }
+            Op::Neg => {
+                self.holds(plain, 1)?;
+                Ok(push(1, integer::neg(self.top())?))
+            }
+            Op::Ladd => {
+                self.holds(plain, 2)?;
+                Ok(push(2, logical::add(self.below(), self.top())))
+            }
+            Op::Lsub => {
+                self.holds(plain, 2)?;
+                Ok(push(2, logical::sub(self.below(), self.top())))
+            }
+            Op::Lmul => {
+                self.holds(plain, 2)?;
+                Ok(push(2, logical::mul(self.below(), self.top())))
+            }
+            Op::Ldiv => {
+                self.holds(plain, 2)?;
+                Ok(push(2, logical::div(self.below(), self.top())?))
+            }
+            Op::Lrem => {
+                self.holds(plain, 2)?;
+                Ok(push(2, logical::rem(self.below(), self.top())?))
+            }
+            Op::Cmp => {
+                let by = Relation::try_from(a)?;
+                self.holds(single, 2)?;
+                Ok(push(2, compare(by, self.below(), self.top())))
+            }
+            Op::Lcmp => {
+                let by = Relation::try_from(a)?;
+                self.holds(single, 2)?;
+                Ok(push(2, compare_logical(by, self.below(), self.top())))
+            }
+            Op::And => {
+                self.holds(plain, 2)?;
+                Ok(push(2, bits::and(self.below(), self.top())))
+            }
+            Op::Or => {
+                self.holds(plain, 2)?;
+                Ok(push(2, bits::or(self.below(), self.top())))
+            }
+            Op::Xor => {
+                self.holds(plain, 2)?;
+                Ok(push(2, bits::xor(self.below(), self.top())))
+            }
+            Op::Not => {
+                self.holds(plain, 1)?;
+                Ok(push(1, bits::complement(self.top())))
+            }
+            Op::Fld => {
+                let field = Field::new(a, b).ok_or(Ending::BadOperand)?;
+                self.holds(true, 1)?;
+                Ok(push(1, field.extract(self.top())))
+            }
+            Op::Dep => {
+                let field = Field::new(a, b).ok_or(Ending::BadOperand)?;
+                self.holds(true, 2)?;
+                Ok(push(2, field.deposit(self.below(), self.top())))
+            }
+            Op::Shf => {
+                let shift = Shift::new(a, b).ok_or(Ending::BadOperand)?;
+                self.holds(true, 1)?;
+                Ok(push(1, shift.apply(self.top())))
+            }
+            Op::Br => {
+                self.holds(single, 0)?;
+                Ok(on(0, u32::from(a)))
+            }
             Op::Bre => {
-                if odd(x) {
+                self.holds(single, 1)?;
+                if odd(self.top()) {
                     return Ok(on(1, next));
                 }
                 Ok(on(1, u32::from(a)))
             }
             Op::Case => {
-                let i = chosen(x, b)?;
+                self.holds(true, 1)?;
+                let i = chosen(self.top(), b)?;
                 Ok(on(1, u32::from(a) + u32::from(i)))
             }
             Op::For => {
+                self.holds(true, 2)?;
                 let variable = self.cell(u32::from(a))?;
-                if turns(variable, y, x) {
+                if turns(variable, self.below(), self.top()) {
                     return Ok(on(0, next));
                 }
                 Ok(on(0, u32::from(b)))
             }
             Op::Next => {
+                self.holds(true, 2)?;
                 let variable = self.cell(u32::from(a))?;
-                let word = integer::add(variable, y)?;
+                let word = integer::add(variable, self.below())?;
                 Ok(write(0, u32::from(a), word, u32::from(b)))
             }
         }

@@ -1,6 +1,6 @@
 // A session keeps the cells and the depth that it was started with, and the registers. Code, stack and store are lent at
 // every call, and looked at anew.
-ghost use Rattle.std.specs.Prelude.{◌≤◌};
+ghost use Rattle.std.specs.Prelude.{◌<◌, ◌≤◌};
 
 use machine::vm::Vm;
 
@@ -11,6 +11,7 @@ pub struct Session {
     cells: u16,
     depth: u16,
     vm: Vm,
+    ghost deep: { depth < 65536 },
     ghost low: { vm.height ≤ depth },
     ghost counted: { vm.writes ≤ vm.steps },
     ghost within: { vm.steps ≤ 4000000000 },

@@ -1,36 +1,49 @@
 // The steps of a machine.
 ghost use Rattle.std.specs.Prelude.{◌≡◌, ◌+◌, ◌<◌, ◌≤◌, length, None, IfOk};
 ghost use Rattle.machine.specs.Machine.{made, fetched, goes, Makes, pops as pops_of, step as step_of, run as run_of};
-ghost use Rattle.machine.specs.Lent.{state_of, Lasts};
+ghost use Rattle.machine.specs.Lent.{registers_of, state_of, Lasts};
 
 use super::Machine;
 use crate::act::act;
 use crate::ending::Ending;
-use crate::vm::Move;
+use crate::vm::{Move, Vm};
 use words::store::Store;
 
-impl<S: Store> Machine<'_, '_, '_, S> {
+impl<S: Store> Machine<'_, '_, '_, '_, S> {
+    pub fn registers(&self) -> Vm
+        ensures { result ≡ registers_of self.now }
+    {
+        Vm {
+            place: self.place,
+            height: self.stack.len() as u16,
+            steps: self.steps,
+            writes: self.writes,
+            ending: self.ending,
+        }
+    }
+
     // Makes a move. One that ends the run changes nothing.
+    #[inline(always)]
     fn make(&mut self, m: Move) -> Result<(), Ending>
-        requires counts { self.old.vm.writes < self.old.vm.steps }
-        requires pops { pops_of m ≤ self.old.vm.height }
-        requires place { self.old.vm.place < 65536 }
+        requires counts { self.old.writes < self.old.steps }
+        requires pops { pops_of m ≤ self.old.stack.now.len }
+        requires place { self.old.place < 65536 }
         ensures did { Makes result (state_of S.Store.words self.old) (state_of S.Store.words self.new) (made self.old.depth m (state_of S.Store.words self.old)) }
         ensures lasts { Lasts S.Store.keeps self.old self.new }
     {
         match m {
             Move::On { pops, place } => {
-                self.vm.height -= pops;
-                self.vm.place = place;
+                self.stack.cut(usize::from(pops));
+                self.place = place;
             }
             Move::Push { pops, word } => {
-                let at = self.vm.height - pops;
-                if at >= self.depth {
+                let pops = usize::from(pops);
+                if self.stack.len() - pops >= usize::from(self.depth) {
                     return Err(Ending::TooHigh);
                 }
-                self.stack[at as usize] = word;
-                self.vm.height = at + 1;
-                self.vm.place += 1;
+                self.stack.cut(pops);
+                self.stack.push(word).map_err(|_| Ending::TooHigh)?;
+                self.place += 1;
             }
             Move::Write {
                 pops,
@@ -40,31 +53,29 @@ impl<S: Store> Machine<'_, '_, '_, S> {
             } => {
                 let cell = u16::try_from(cell).map_err(|_| Ending::Outside)?;
                 self.store.write(cell, word)?;
-                self.vm.height -= pops;
-                self.vm.writes += 1;
-                self.vm.place = place;
+                self.stack.cut(usize::from(pops));
+                self.writes += 1;
+                self.place = place;
             }
         }
         Ok(())
     }
 
     // The move of the instruction at the place.
+    #[inline(always)]
     fn fetch(&self) -> Result<Move, Ending>
         ensures moves { result ≡ fetched self.now.code.now (state_of S.Store.words self.now) }
-        ensures place { IfOk result (λ _. self.now.vm.place < length self.now.code.now) }
+        ensures place { IfOk result (λ _. self.now.place < length self.now.code.now) }
     {
-        let place = self.vm.place;
-        let i = self
-            .code
-            .get(place as usize)
-            .copied()
-            .ok_or(Ending::Outside)?;
-        act(i, place, self.vm.height, self.stack, self.store)
+        let place = self.place;
+        let i = self.code.get(place as usize).ok_or(Ending::Outside)?;
+        act(i, place, self.stack, self.store)
     }
 
     // Makes that move.
+    #[inline(always)]
     fn advance(&mut self) -> Result<(), Ending>
-        requires { self.old.vm.writes < self.old.vm.steps }
+        requires { self.old.writes < self.old.steps }
         ensures did { Makes result (state_of S.Store.words self.old) (state_of S.Store.words self.new) (goes self.old.code.now self.old.depth (state_of S.Store.words self.old)) }
         ensures lasts { Lasts S.Store.keeps self.old self.new }
     {
@@ -73,26 +84,28 @@ impl<S: Store> Machine<'_, '_, '_, S> {
     }
 
     // Counts a step and makes it, or notes the ending.
+    #[inline(always)]
     fn cycle(&mut self)
-        requires steps { self.old.vm.steps < 4000000000 }
-        requires going { self.old.vm.ending ≡ None }
+        requires steps { self.old.steps < 4000000000 }
+        requires going { self.old.ending ≡ None }
         ensures did { state_of S.Store.words self.new ≡ step_of self.old.code.now self.old.depth (state_of S.Store.words self.old) }
         ensures lasts { Lasts S.Store.keeps self.old self.new }
     {
-        self.vm.steps += 1;
+        self.steps += 1;
         if let Err(e) = self.advance() {
-            self.vm.ending = Some(e);
+            self.ending = Some(e);
         }
     }
 
     // So many steps, fewer only if the run ends.
+    #[inline(always)]
     pub fn run(&mut self, steps: u64)
-        requires { self.old.vm.steps + steps ≤ 4000000000 }
+        requires { self.old.steps + steps ≤ 4000000000 }
         ensures did { state_of S.Store.words self.new ≡ run_of self.old.code.now self.old.depth steps (state_of S.Store.words self.old) }
         ensures lasts { Lasts S.Store.keeps self.old self.new }
     {
         for i in 0..steps {
-            if self.vm.ending.is_some() {
+            if self.ending.is_some() {
                 return;
             }
             self.cycle();

@@ -10,6 +10,7 @@ use crate::lent::Lent;
 use crate::session::Session;
 use machine::machine::{LIMIT, Machine};
 use machine::vm::Vm;
+use words::list::Bounded;
 use words::store::{Store, StoreFault};
 
 impl<S: Store> Lent<'_, '_, '_, S> {
@@ -87,15 +88,19 @@ impl Session {
             return Err(SessionFault::UsedUp);
         }
         let granted = limit.min(LIMIT - self.vm.steps);
+        let mut list = Bounded::of_first(&mut *lent.stack, usize::from(self.vm.height));
         let mut machine = Machine {
             code: lent.code,
             depth: self.depth,
-            stack: &mut *lent.stack,
+            stack: &mut list,
             store: &mut *lent.store,
-            vm: self.vm,
+            place: self.vm.place,
+            steps: self.vm.steps,
+            writes: self.vm.writes,
+            ending: self.vm.ending,
         };
         machine.run(granted);
-        self.vm = machine.vm;
+        self.vm = machine.registers();
         Ok(self.vm)
     }
 }

@@ -6,5 +6,5 @@ use Rattle.machine.proofs.machine.Machine.run.Given as goal
 abbrev pub invariant-loop-i : goal.invariant-loop-i
 invariant-loop-i g l =
     (state_of g.S.Store.words l.self ≡ run l.initial.self.code.now l.initial.self.depth l.i (state_of g.S.Store.words l.initial.self))
-    × (l.self.vm.steps ≤ l.initial.self.vm.steps + l.i)
+    × (l.self.steps ≤ l.initial.self.steps + l.i)
     × Lasts g.S.Store.keeps l.initial.self l.self
