@@ -1,8 +1,8 @@
 -- What some sources mean.
 use Rattle.std.specs.Prelude.{◌≡◌, ℕ, [], ◌∷◌, Ok, Err}
-use Rattle.arith.specs.declared.relation.Relation.TheVariants.{Unequal, Greater, Less}
+use Rattle.arith.specs.declared.relation.Relation.TheVariants.{Equal, Unequal, Greater, Less}
 use Rattle.arith.specs.declared.stop.Stop.TheVariants.{Overflow, ZeroDivisor, BadIndex, BadCase}
-use Rattle.typed.specs.Trees.{lit, var, bin, add, sub, mul, div, cmp, test, and, only, Stmt, assign, fill, deposit, deposit_at, when, while, repeat, for, case, Body, end, then, last, arm}
+use Rattle.typed.specs.Trees.{lit, var, bin, add, sub, mul, div, cmp, test, and, only, or, Stmt, assign, fill, deposit, deposit_at, when, either, while, repeat, for, case, Body, end, then, last, arm}
 use Rattle.meaning.specs.Effects.{put, effect, cut}
 use Rattle.meaning.specs.Meaning.{exec}
 
@@ -21,6 +21,11 @@ counting first limit = one (for 0 (lit first) (lit 1) (lit limit) end)
 -- IF J <> 0 AND 10 / J > 2 THEN J := 1
 abbrev pub guarded : Body
 guarded = one (when (only (and (bin (cmp Unequal) (var 0) (lit 0)) (test (bin (cmp Greater) (bin div (lit 10) (var 0)) (lit 2))))) (one (assign 0 (lit 1))))
+
+-- IF J = 0 OR 10 / J > 2 THEN J := 1 ELSE J := 2
+abbrev pub parted : Body
+parted =
+    one (either (or (test (bin (cmp Equal) (var 0) (lit 0))) (only (test (bin (cmp Greater) (bin div (lit 10) (var 0)) (lit 2))))) (one (assign 0 (lit 1))) (one (assign 0 (lit 2))))
 
 -- IF w THEN A := 9
 abbrev pub if_word : ℕ → Body
@@ -54,6 +59,10 @@ pub record Examples : Type 0 where
   -- what stands behind a false expression is not worked out
   pub skips : exec guarded 0 (0 ∷ []) ≡ effect [] (Ok tt)
   pub both : exec guarded 0 (3 ∷ []) ≡ effect (put 0 1 ∷ []) (Ok tt)
+  -- nor what stands behind a true clause
+  pub passes : exec parted 0 (0 ∷ []) ≡ effect (put 0 1 ∷ []) (Ok tt)
+  pub behind : exec parted 0 (3 ∷ []) ≡ effect (put 0 1 ∷ []) (Ok tt)
+  pub neither : exec parted 0 (5 ∷ []) ≡ effect (put 0 2 ∷ []) (Ok tt)
   -- an even word is false
   pub even : exec (if_word 2) 0 (0 ∷ []) ≡ effect [] (Ok tt)
   pub odd : exec (if_word 3) 0 (0 ∷ []) ≡ effect (put 0 9 ∷ []) (Ok tt)
