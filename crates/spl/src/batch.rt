@@ -199,11 +199,11 @@ impl Bench {
         Ok(())
     }
 
-    // Whether a line `REQUEST -> ANSWER` of a table holds; a difference is printed.
-    fn holds(&mut self, rt: &HostRuntime, line: &[u8]) -> anyhow::Result<bool> {
+    // Whether a line `REQUEST -> ANSWER` of a table holds; a difference is printed, with the number of the line.
+    fn holds(&mut self, rt: &HostRuntime, number: usize, line: &[u8]) -> anyhow::Result<bool> {
         let arrow = b" -> ";
         let Some(i) = line.windows(4).position(|w| w.starts_with(arrow)) else {
-            println!(rt; "a line has no ` -> `")?;
+            println!(rt; "line {number} has no ` -> `")?;
             return Ok(false);
         };
         let (request, answer) = line.split_at(i);
@@ -213,7 +213,7 @@ impl Bench {
             return Ok(true);
         }
         let request = String::from_utf8_lossy(self.heap, line)?;
-        println!(rt; "{request}")?;
+        println!(rt; "line {number}: {request}")?;
         print!(rt; "  but was answered {out}")?;
         Ok(false)
     }
@@ -233,13 +233,13 @@ pub fn check(rt: &HostRuntime, path: &str) -> anyhow::Result<()> {
     let mut bench = Bench::new(rt.alloc())?;
     let mut count = 0u64;
     let mut wrong = 0u64;
-    for line in input.as_slice().split_inclusive(is_feed) {
+    for (before, line) in input.as_slice().split_inclusive(is_feed).enumerate() {
         let line = without_feed(line);
         if line.is_empty() || line.starts_with(b"#") {
             continue;
         }
         count = count.saturating_add(1);
-        if !bench.holds(rt, line)? {
+        if !bench.holds(rt, before.saturating_add(1), line)? {
             wrong = wrong.saturating_add(1);
         }
     }

@@ -198,6 +198,8 @@ impl Outline<'_> {
         put_text(&mut what, name.name())?;
         what.push_str(subscript)?;
         if let Some((first, second)) = self.field.take() {
+            // the rest of its word is kept, and so it is read
+            self.read(name, place)?;
             write!(what, ".({first}:{second})")?;
         }
         what.push_str(" :=")?;

@@ -124,7 +124,7 @@ fn table(rt: &HostRuntime, routine: &Routine, before: &[u16], after: &[u16]) -> 
 
 pub fn run(rt: &HostRuntime, path: &str, options: &[String]) -> anyhow::Result<()> {
     let heap = rt.alloc();
-    let settings = Settings::of(heap, options, LIMIT)?;
+    let settings = Settings::of(rt, options, LIMIT)?;
     settings.judge(rt, path)?;
     let routine = open(rt, path)?;
     let before = settings.store(heap, routine.code().cells)?;

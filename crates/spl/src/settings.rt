@@ -1,5 +1,5 @@
 // What `spl run` and `spl trace` are told beside the file: the first words of the store, and a limit of steps.
-use crate::fields::number;
+use crate::fields::{Problem, number};
 use crate::sessions::words;
 use anyhow::anyhow;
 use session::fault::SessionFault;
@@ -15,23 +15,35 @@ pub struct Settings {
 
 impl Settings {
     // Options come as a name and a value each; `limit` is that of a command without the option.
-    pub fn of(heap: Global, options: &[String], limit: u64) -> anyhow::Result<Settings> {
+    pub fn of(rt: &HostRuntime, options: &[String], limit: u64) -> anyhow::Result<Settings> {
         let mut settings = Settings {
-            words: Vec::new(heap),
+            words: Vec::new(rt.alloc()),
             limit,
         };
         let (pairs, rest) = options.as_chunks::<2>();
-        if !rest.is_empty() {
-            return Err(anyhow!("an option has no value"));
-        }
         for [name, value] in pairs {
-            match name.as_str() {
-                "--cells" => words(value.as_bytes(), &mut settings.words)?,
-                "--limit" => settings.limit = number(value.as_bytes())? as u64,
-                _ => return Err(anyhow!("there is no such option")),
+            let name = name.as_str();
+            if let Err(problem) = settings.set(name, value.as_bytes()) {
+                println!(rt; "{name}: {problem}")?;
+                return Err(anyhow!("an option is no good"));
             }
         }
+        if let [name, ..] = rest {
+            println!(rt; "{name}: an option has no value")?;
+            return Err(anyhow!("an option is no good"));
+        }
         Ok(settings)
+    }
+
+    fn set(&mut self, name: &str, value: &[u8]) -> Result<(), Problem> {
+        match name {
+            "--cells" => words(value, &mut self.words),
+            "--limit" => {
+                self.limit = number(value)? as u64;
+                Ok(())
+            }
+            _ => Err(Problem::NotRequest("there is no such option")),
+        }
     }
 
     // No session makes 0 steps: that limit is refused as a session refuses it.

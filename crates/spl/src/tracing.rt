@@ -107,7 +107,7 @@ fn steps<S: Store>(
 
 pub fn trace(rt: &HostRuntime, path: &str, options: &[String]) -> anyhow::Result<()> {
     let heap = rt.alloc();
-    let settings = Settings::of(heap, options, LIMIT)?;
+    let settings = Settings::of(rt, options, LIMIT)?;
     settings.judge(rt, path)?;
     let routine = open(rt, path)?;
     let mut stack = vec![in heap; 0u16; routine.code().depth as usize]?;
