@@ -29,9 +29,10 @@ module _ {X : Type 0} where
   Popped b d None = (b.len ≡ 0) × Same b d
   Popped b d (Some x) = (held b ≡ held d ++ x ∷ []) × (d.len + 1 ≡ b.len) × (room d ≡ room b) × Lends b d
 
-  -- the last n elements are taken, and no cell changes
-  abbrev pub Cut : Bounded X → ℕ → Bounded X → Type 0
-  Cut b n d = (held d ≡ take (b.len - n) (held b)) × (d.len ≡ b.len - n) × (room d ≡ room b) × Lends b d
+  -- the last n elements are taken, and no cell changes; or there are fewer, and their number is answered
+  abbrev pub Cut : {U : Type 0} → Bounded X → ℕ → Bounded X → Result U ℕ → Type 0
+  Cut b n d (Ok u) = (n ≤ b.len) × (held d ≡ take (b.len - n) (held b)) × (d.len ≡ b.len - n) × (room d ≡ room b) × Lends b d
+  Cut b n d (Err e) = (e ≡ b.len) × (b.len < n) × Same b d
 
   -- x stands at i; or the list is no longer than i
   abbrev pub Changed : {U : Type 0} → Bounded X → ℕ → X → Bounded X → Result U ℕ → Type 0

@@ -33,7 +33,9 @@ impl<S: Store> Machine<'_, '_, '_, '_, S> {
     {
         match m {
             Move::On { pops, place } => {
-                self.stack.cut(usize::from(pops));
+                self.stack
+                    .cut(usize::from(pops))
+                    .map_err(|_| Ending::Missing)?;
                 self.place = place;
             }
             Move::Push { pops, word } => {
@@ -41,7 +43,7 @@ impl<S: Store> Machine<'_, '_, '_, '_, S> {
                 if self.stack.len() - pops >= usize::from(self.depth) {
                     return Err(Ending::TooHigh);
                 }
-                self.stack.cut(pops);
+                self.stack.cut(pops).map_err(|_| Ending::Missing)?;
                 self.stack.push(word).map_err(|_| Ending::TooHigh)?;
                 self.place += 1;
             }
@@ -53,7 +55,9 @@ impl<S: Store> Machine<'_, '_, '_, '_, S> {
             } => {
                 let cell = u16::try_from(cell).map_err(|_| Ending::Outside)?;
                 self.store.write(cell, word)?;
-                self.stack.cut(usize::from(pops));
+                self.stack
+                    .cut(usize::from(pops))
+                    .map_err(|_| Ending::Missing)?;
                 self.writes += 1;
                 self.place = place;
             }

@@ -59,13 +59,17 @@ impl<'a, T: Copy> Bounded<'a, T> {
         Some(self.cells[self.len])
     }
 
-    // Takes the last `n` elements off; their cells keep what they held.
+    // Takes the last `n` elements off; their cells keep what they held. Where there are fewer, refuses with their number and
+    // changes nothing.
     #[inline(always)]
-    pub fn cut(&mut self, n: usize)
-        requires { n ≤ length (held self.old) }
-        ensures { Cut self.old n self.new }
+    pub fn cut(&mut self, n: usize) -> Result<(), usize>
+        ensures { Cut self.old n self.new result }
     {
+        if n > self.len {
+            return Err(self.len);
+        }
         self.len -= n;
+        Ok(())
     }
 
     // The k-th element from the end, from 0.
