@@ -9,20 +9,17 @@ const LEAST: i32 = -32768;
 
 const GREATEST: i32 = 32767;
 
-// The INTEGER that a word is. This and the next are in the definitions' two cases, which the library's casts do not show.
+// The INTEGER that a word is.
 #[inline(always)]
+#[tactic(auto, unfolding(crate::specs::Integers::int))]
 pub fn value(w: u16) -> i32
     ensures exact { result ≡ int w }
     ensures small { Small result }
 {
-    if w < 32768 {
-        w as i32
-    } else {
-        w as i32 - 65536
-    }
+    i32::from(w.cast_signed())
 }
 
-// The word that an INTEGER is.
+// The word that an INTEGER is, in the two cases of the definition.
 #[inline(always)]
 pub fn fit(v: i32) -> Result<u16, Stop>
     ensures { result ≡ fitted v }
