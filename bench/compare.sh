@@ -11,7 +11,7 @@ fi
 program=$1
 seed=${2:-1}
 count=${3:-10000}
-kinds=${4:-tokens,imagein,imageout,compile,session,single}
+kinds=${4:-tokens,parse,imagein,imageout,compile,session,single}
 here=$(cd "$(dirname "$0")" && pwd) || exit 2
 work=$(mktemp -d) || exit 2
 trap 'rm -rf "$work"' EXIT
@@ -68,7 +68,7 @@ for request, got, wanted in itertools.zip_longest(
     if differences <= SHOWN:
         print("line %d: %s" % (count, cut(request)))
         fields = request.split()
-        if fields and fields[0] in ("compile", "tokens") and len(fields[-1]) % 2 == 0:
+        if fields and fields[0] in ("compile", "parse", "tokens") and len(fields[-1]) % 2 == 0:
             try:
                 print("  source    %s" % cut(repr(bytes.fromhex(fields[-1]))[1:]))
             except ValueError:

@@ -3,7 +3,7 @@
 
     generate.py SEED COUNT [KINDS]
 
-prints COUNT lines.  KINDS is a comma list from tokens, imagein, imageout, compile, session, single
+prints COUNT lines.  KINDS is a comma list from tokens, parse, imagein, imageout, compile, session, single
 (all of them if absent).  The further kind `long`, never chosen by itself, asks for the largest
 number of steps a session may take.
 """
@@ -13,7 +13,7 @@ import sys
 sys.dont_write_bytecode = True
 import reference as R
 
-KINDS = ("tokens", "imagein", "imageout", "compile", "session", "single")
+KINDS = ("tokens", "parse", "imagein", "imageout", "compile", "session", "single")
 
 EDGES = (0, 1, 2, 3, 7, 8, 15, 16, 17, 33, 34, 63, 64, 127, 128, 129, 255, 256, 4095, 4096, 4097,
          16382, 16383, 16384, 16385, 32766, 32767, 32768, 32769, 65534, 65535)
@@ -1251,7 +1251,20 @@ def tokens_line(rng):
     return "tokens " + hexed(source(rng))
 
 
-MAKERS = {"tokens": tokens_line, "imagein": imagein_line, "imageout": imageout_line,
+def parse_line(rng):
+    pick = rng.randrange(8)
+    if pick < 3:
+        text = valid_source(rng)
+    elif pick < 4:
+        text = damage_bytes(rng, valid_source(rng))
+    elif pick < 6:
+        text = nested_source(rng)
+    else:
+        text = source(rng)
+    return "parse " + hexed(text)
+
+
+MAKERS = {"tokens": tokens_line, "parse": parse_line, "imagein": imagein_line, "imageout": imageout_line,
           "compile": compile_line, "session": session_line, "single": single_line,
           "long": long_line}
 

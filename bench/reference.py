@@ -565,6 +565,66 @@ def judge_sizes(reader):
 
 
 # ---------------------------------------------------------------------------------------------
+# Entries of the syntax list, counted on the trees
+# ---------------------------------------------------------------------------------------------
+
+def entries_of(e):
+    form = e[0]
+    if form == "const":
+        return 1
+    if form == "var":
+        return 1 if e[3] is None else entries_of(e[3][1]) + 1
+    if form in ("convert", "neg", "lnot"):
+        return entries_of(e[2]) + 1
+    if form == "post":
+        return entries_of(e[1]) + len(e[2])
+    if form == "relation":
+        return entries_of(e[1]) + entries_of(e[4]) + 1
+    assert form == "chain"
+    return entries_of(e[1]) + sum(entries_of(part) + 1 for _, _, part in e[2])
+
+
+def condition_entries(clauses):
+    """A Test after each expr, an Or between clauses."""
+    return sum(entries_of(e) + 1 for clause in clauses for _, e in clause) + len(clauses) - 1
+
+
+def statement_entries(s):
+    form = s[0]
+    if form == "empty":
+        return 0
+    if form == "list":
+        return sum(statement_entries(part) for part in s[1])
+    if form == "assign":
+        _, (_, _, _, subscript), field, _, value = s
+        plain = subscript is None
+        before = 0 if plain else entries_of(subscript[1]) + 1     # Checked or FetchAt
+        if field is None:
+            return before + entries_of(value) + 1
+        return before + (1 if plain else 0) + entries_of(value) + 2
+    if form == "if":
+        _, test, yes, no = s
+        otherwise = 0 if no is None else 1 + statement_entries(no)
+        return 1 + condition_entries(test) + 1 + statement_entries(yes) + otherwise + 1
+    if form == "case":
+        return entries_of(s[2]) + 1 + sum(statement_entries(part) + 2 for part in s[3]) + 1
+    if form in ("while", "do"):
+        test, body = (s[1], s[2]) if form == "while" else (s[2], s[1])
+        return 1 + condition_entries(test) + 1 + statement_entries(body) + 1
+    assert form == "for"
+    _, _, _, _, first, step, limit, body = s
+    by = 0 if step is None else entries_of(step)
+    return entries_of(first) + 1 + by + 1 + entries_of(limit) + 1 + statement_entries(body) + 2
+
+
+def entries(text):
+    """How many entries the syntax list of a source has."""
+    reader = Reader(cut(text), len(text))
+    body = reader.program()
+    return len(reader.declared) + statement_entries(body)
+
+
+# ---------------------------------------------------------------------------------------------
 # Code
 # ---------------------------------------------------------------------------------------------
 
@@ -1525,6 +1585,10 @@ def answer_tokens(fields):
     return "ok" + "".join([" %d:%s:%s" % token for token in tokens])
 
 
+def answer_parse(fields):
+    return "ok %d" % entries(read_hex(fields[0]))
+
+
 def answer_compile(fields):
     table, source = read_number(fields[0]), read_hex(fields[1])
     cells, depth, code = compile_source(source, table)
@@ -1544,6 +1608,7 @@ def answer_imageout(fields):
 
 REQUESTS = {
     "tokens": (1, answer_tokens),
+    "parse": (1, answer_parse),
     "compile": (2, answer_compile),
     "imagein": (2, answer_imagein),
     "imageout": (4, answer_imageout),

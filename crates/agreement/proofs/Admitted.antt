@@ -1,5 +1,5 @@
 -- Where names and sizes are in order, every cell that the typed tree names is one of the source's. Assumes nothing.
-use Rattle.std.proofs.Common.{◌≡◌, None}
+use Rattle.std.proofs.Common.{◌≡◌, None, subst}
 use Rattle.trees.specs.Trees.{Expr, number, load, index, binary, negate, lnot, convert, field, shift, Clause, test, and, Cond, only, or, Step, absent, by, Stmt, assign, assign_at, deposit, deposit_at, when, either, choose, while, repeat, count, Body, end, then, Arms, last, arm, Program}
 use Rattle.meaning.specs.Meaning.{WithinE, WithinL, WithinC, WithinS, Within, WithinA}
 use Rattle.checks.specs.Faults.{least}
@@ -7,10 +7,10 @@ use Rattle.checks.specs.Tables.{Table}
 use Rattle.checks.specs.Names.{program_table, program_names}
 use Rattle.checks.specs.Sizes.{program_sizes}
 use Rattle.checks.specs.Writing.{resolve_e, resolve_l, resolve_c, resolve_p, resolve_s, resolve_b, resolve_a, resolve}
-use Rattle.checks.specs.Rules.{NamedE, NamedL, NamedC, NamedP, NamedS, NamedB, NamedA, RangedE, RangedL, RangedC, RangedP, RangedS, RangedB, RangedA}
+use Rattle.checks.specs.Rules.{NamedE, NamedL, NamedC, NamedP, NamedS, NamedB, NamedA, RangedE, RangedL, RangedC, RangedP, RangedS, RangedB, RangedA, Named, Ranged, Right, widths}
 use Rattle.checks.proofs.Laying.{Good}
 use Rattle.checks.proofs.NamedCells.{table_good, simple_cell, array_cells}
-use Rattle.checks.proofs.NameRules.{named_there}
+use Rattle.checks.proofs.NameRules.{named_there, laid_program}
 use Rattle.checks.proofs.SizeRules.{ranged_there}
 
 module _ (t : Table) (g : Good t) where
@@ -59,6 +59,13 @@ module _ (t : Table) (g : Good t) where
     within_a (last b) d r = within_b b d r
     within_a (arm b a) d r = (within_b b d.0 r.0, within_a a d.1 r.1)
 
-pub admitted_within : (p : Program) → least (program_names p) ≡ None → least (program_sizes p) ≡ None → Within (resolve p) (program_table p).cells
+within_program : (p : Program) → Named p → Ranged p → Within (resolve p) (program_table p).cells
 unfolding resolve
-admitted_within p n s = within_b (program_table p) (table_good p) p.body (named_there p n).body (ranged_there p s).body
+within_program p n s = within_b (program_table p) (table_good p) p.body n.body s.body
+
+pub admitted_within : (p : Program) → least (program_names p) ≡ None → least (program_sizes p) ≡ None → Within (resolve p) (program_table p).cells
+admitted_within p n s = within_program p (named_there p n) (ranged_there p s)
+
+-- a source that keeps the rules
+pub ruled_within : (p : Program) → Right p → Within (resolve p) (widths p.decls)
+ruled_within p r = subst (λ t. Within (resolve p) t.cells) (laid_program p r.names) (within_program p r.names r.sizes)

@@ -1,24 +1,24 @@
 -- Any list of calls leaves the machine after the steps that it grants.
-use Rattle.std.proofs.Common.{◌≡◌, ℕ, zero, suc, ◌+◌, ◌≤◌, min, Bool, true, false, cond, eqb, leb, List, [], ◌∷◌, length, get_or, take, is_some, Some, None, Option, sym, refl, ap, ◌∙◌, subst, ⊎_elim, arith, length-set}
+use Rattle.std.proofs.Common.{◌≡◌, ℕ, zero, suc, ◌+◌, ◌≤◌, min, Bool, true, false, cond, eqb, leb, List, [], ◌∷◌, length, get_or, take, is_some, Some, None, Ok, Option, Result, sym, refl, ap, ◌∙◌, subst, ⊎_elim, arith, length-set}
 use Rattle.std.proofs.lemmas.Bool.{cases_lt, eqb-true, leb-true, le-ltb, ne_eqb, true≢false}
 use Rattle.words.specs.declared.instr.Instr.{Instr}
+use Rattle.words.specs.declared.refusal.Refusal.{Refusal}
+use Rattle.words.specs.Refusals.{refuse, then}
 use Rattle.typed.specs.Trees.{Body}
 use Rattle.typed.specs.Code.{program, depth}
 use Rattle.machine.specs.declared.ending.Ending.{Ending}
 use Rattle.machine.specs.Machine.{State, state, step, run}
 use Rattle.machine.proofs.Runs.{lawful}
-use Rattle.session.specs.declared.call.Call.{Call}
-use Rattle.session.specs.declared.call.Call.TheVariants.{Resume, Look, Report}
-use Rattle.session.specs.declared.fault.SessionFault.{SessionFault}
-use Rattle.session.specs.declared.fault.SessionFault.TheVariants.{NoSteps, Ended, UsedUp}
-use Rattle.session.specs.Calls.{resume_leaves, left_by, played}
-use Rattle.session.specs.Sessions.{most, fitting, refusing, else, unless, granted, begun}
+use Rattle.machine.specs.declared.call.Call.{Call}
+use Rattle.machine.specs.declared.call.Call.TheVariants.{Resume, Look, Report}
+use Rattle.machine.specs.Calls.{left_by, played}
+use Rattle.machine.specs.Sessions.{most, fitting, refusing, granted, left, begun}
 use Rattle.meaning.specs.Cells.{Below}
 use Rattle.meaning.specs.Effects.{Store, Write, put, writes_of}
 use Rattle.meaning.specs.Meaning.{exec, Within}
 use Rattle.meaning.proofs.Cells.{confined}
 use Rattle.agreement.specs.Agreement.{start, after, Agrees, Keeps}
-use Rattle.agreement.specs.Sessions.{limits, EndsIn, Promise, Kept}
+use Rattle.agreement.specs.Sessions.{limits, EndsIn, Promise}
 use Rattle.agreement.proofs.Counted.{Count, going, over, count}
 use Rattle.agreement.proofs.Stored.{writes_counted}
 use Rattle.agreement.proofs.Whole.{agreement, some_code}
@@ -47,26 +47,31 @@ sized_run P d (suc n) s =
     record { stack = h.stack ∙ k.stack; cells = h.cells ∙ k.cells }
 
 -- none of the rows of start refuses
-fits : (c d n w size : ℕ) → 1 ≤ n → n ≤ 16383 → d ≤ w → c ≤ size → fitting c d n w size ≡ None
+pub fits : (c d n w size : ℕ) → 1 ≤ n → n ≤ 16383 → d ≤ w → c ≤ size → fitting c d n w size ≡ Ok tt
 fits c d n w size one short lent there = rw (ne_eqb n 0 (λ e. omega arith), le-ltb 16383 n short, le-ltb w d lent, le-ltb size c there)
 
+-- t where nothing refuses, else s
+abbrev unless : Result (Unit {0}) Refusal → State → State → State
+unless o t s = left (then o (λ _. Ok t)) s
+
 -- a resume that is refused for its limit, its ending or its steps would not run either
-resumed_runs : (c d : ℕ) (P : List Instr) (limit : ℕ) (s : State) → fitting c d (length P) (length s.stack) (length s.cells) ≡ None → left_by c d P (Resume limit) s ≡ run P d (granted limit s) s
+resumed_runs : (c d : ℕ) (P : List Instr) (limit : ℕ) (s : State) → fitting c d (length P) (length s.stack) (length s.cells) ≡ Ok tt → left_by c d P (Resume limit) s ≡ run P d (granted limit s) s
 unfolding run
-resumed_runs c d P limit s fit = ap (λ (o : Option SessionFault). resume_leaves (unless (else o (refusing limit s)) (run P d (granted limit s) s)) s) fit ∙ of (eqb limit 0) refl
+resumed_runs c d P limit s fit =
+    ap (λ (o : Result (Unit {0}) Refusal). left (then o (λ _. then (refusing limit s) (λ _. Ok (run P d (granted limit s) s)))) s) fit ∙ of (eqb limit 0) refl
   where
     stay : granted limit s ≡ 0 → s ≡ run P d (granted limit s) s
     stay e = ap (λ (k : ℕ). run P d k s) (sym e)
 
-    used : (u : Bool) → leb most s.vm.steps ≡ u → resume_leaves (unless (cond u (Some UsedUp) None) (run P d (granted limit s) s)) s ≡ run P d (granted limit s) s
+    used : (u : Bool) → leb most s.vm.steps ≡ u → unless (cond u (refuse 35 0) (Ok tt)) (run P d (granted limit s) s) s ≡ run P d (granted limit s) s
     used true q = stay (omega (arith, leb-true most s.vm.steps q))
     used false q = refl
 
-    over_by : (o : Option Ending) → s.vm.ending ≡ o → resume_leaves (unless (cond (is_some o) (Some Ended) (cond (leb most s.vm.steps) (Some UsedUp) None)) (run P d (granted limit s) s)) s ≡ run P d (granted limit s) s
+    over_by : (o : Option Ending) → s.vm.ending ≡ o → unless (cond (is_some o) (refuse 34 0) (cond (leb most s.vm.steps) (refuse 35 0) (Ok tt))) (run P d (granted limit s) s) s ≡ run P d (granted limit s) s
     over_by (Some e) q = sym (lawful.ended P d (granted limit s) s e q)
     over_by None q = used (leb most s.vm.steps) refl
 
-    of : (z : Bool) → eqb limit 0 ≡ z → resume_leaves (unless (cond z (Some NoSteps) (cond (is_some s.vm.ending) (Some Ended) (cond (leb most s.vm.steps) (Some UsedUp) None))) (run P d (granted limit s) s)) s ≡ run P d (granted limit s) s
+    of : (z : Bool) → eqb limit 0 ≡ z → unless (cond z (refuse 33 0) (cond (is_some s.vm.ending) (refuse 34 0) (cond (leb most s.vm.steps) (refuse 35 0) (Ok tt)))) (run P d (granted limit s) s) s ≡ run P d (granted limit s) s
     of true q = stay (omega (arith, eqb-true limit 0 q))
     of false q = over_by s.vm.ending refl
 
@@ -95,7 +100,7 @@ module _ (c d : ℕ) (P : List Instr) (s₀ : State) (q₀ : s₀.vm.ending ≡ 
         all = λ z. absurd (some≢none (sym q ∙ ap (λ (y : State). y.vm.ending) (sym e) ∙ z));
       }
 
-  fits_there : (l : ℕ) (s : State) → Standing l s → fitting c d (length P) (length s.stack) (length s.cells) ≡ None
+  fits_there : (l : ℕ) (s : State) → Standing l s → fitting c d (length P) (length s.stack) (length s.cells) ≡ Ok tt
   fits_there l s h =
       let k = subst (Sized s₀) (sym h.machine) (sized_run P d s.vm.steps s₀) in
       fits c d (length P) (length s.stack) (length s.cells) one short (omega (arith, k.stack)) (omega (arith, k.cells))
@@ -197,21 +202,22 @@ module _ (b : Body) (c : ℕ) (st : List ℕ) (σ : Store) (within : Within b c)
     unfolding here
     promise =
         record {
+          store = record { writes = ap (λ (x : State). x.vm.writes) is_machine ∙ writes_counted b st σ here.vm.steps; reached = agreed.reached; cells = agreed.same };
+          endings = record { sound = agreed.sound; low = agreed.low };
+          end =
+              record {
+                steps = λ n e p. counted n e p here.vm.ending refl;
+                going = λ f. counted_on f here.vm.ending refl;
+                ended = has_ended;
+                ending = λ n e p q. ap (λ (x : State). x.vm.ending) (is_machine ∙ ap (after b st σ) q) ∙ p.ended;
+                source = agreed.ends;
+                ends = λ k e q. let m = keeps.ending k e q in ((after b st σ m.0).vm.steps, ends_by m.0 e m.1);
+                back = λ n e p. let k = (keeps.always n).ends e p.ended in (k.0, k.1);
+              };
           machine = is_machine;
-          writes = ap (λ (x : State). x.vm.writes) is_machine ∙ writes_counted b st σ here.vm.steps;
-          reached = agreed.reached;
-          cells = agreed.same;
           others = kept_others;
-          sound = agreed.sound;
-          low = agreed.low;
-          steps = λ n e p. counted n e p here.vm.ending refl;
-          going = λ f. counted_on f here.vm.ending refl;
-          ended = has_ended;
-          ending = λ n e p q. ap (λ (x : State). x.vm.ending) (is_machine ∙ ap (after b st σ) q) ∙ p.ended;
-          source = agreed.ends;
-          ends = λ k e q. let m = keeps.ending k e q in ((after b st σ m.0).vm.steps, ends_by m.0 e m.1);
-          back = λ n e p. let k = (keeps.always n).ends e p.ended in (k.0, k.1);
         }
 
-pub kept : Kept
+pub kept : (b : Body) (c : ℕ) (st : List ℕ) (σ : Store) → Within b c → length (program b) ≤ 16383 → depth b ≤ length st → c ≤ length σ → (xs : List Call) →
+    Promise b c st σ (limits xs) (played c (depth b) (program b) xs (state begun st σ))
 kept = promise

@@ -10,7 +10,7 @@ use Rattle.machine.specs.Table.{decoded}
 use Rattle.machine.specs.Machine.{goes, step, run}
 use Rattle.meaning.specs.Meaning.{Within}
 use Rattle.meaning.specs.Examples.{filling}
-use Rattle.session.specs.Calls.{played}
+use Rattle.machine.specs.Calls.{played}
 use Rattle.agreement.specs.Agreement.{after}
 use Rattle.agreement.specs.Examples.{Examples}
 use Rattle.agreement.proofs.Whole.{agreement}

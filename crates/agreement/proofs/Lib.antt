@@ -11,3 +11,5 @@ pub mod Calls
 pub mod Examples
 pub mod Named
 pub mod Admitted
+pub mod Heights
+pub mod Ruled

@@ -6,7 +6,7 @@ use Rattle.typed.specs.Trees.{Op, add, sub, mul, div, rem, ladd, lsub, lmul, ldi
 use Rattle.typed.specs.Lists.{op_instr, uop_instr}
 use Rattle.typed.specs.Code.{table, code_e, code_l, code_c, code_s, code_b, code_a, program}
 use Rattle.meaning.specs.Meaning.{WithinE, WithinL, WithinC, WithinS, Within, WithinA}
-use Rattle.agreement.specs.Named.{Names, Celled}
+use Rattle.agreement.specs.Named.{Names}
 
 module _ (n : ℕ) where
   -- most name no cell: those of the numbers 0, 1 and 6 to 31
@@ -139,5 +139,5 @@ module _ (n : ℕ) where
   at [] rest i g = g.0
   at (x ∷ front) rest i g = at front rest i g.1
 
-pub celled : Celled
+pub celled : (b : Body) (n : ℕ) → Within b n → (front rest : List Instr) (i : Instr) → program b ≡ front ++ i ∷ rest → Names n i
 celled b n h front rest i e = at n front rest i (subst (All n) e (all_program n b h))

@@ -16,7 +16,7 @@ use Rattle.machine.proofs.Runs.{lawful}
 use Rattle.meaning.specs.Effects.{Store, Write, leave, Effect, effect, cut, writes_of}
 use Rattle.meaning.specs.Meaning.{exec, Within}
 use Rattle.meaning.proofs.Bounds.{bounded}
-use Rattle.agreement.specs.Agreement.{end_of, start, after, Agrees, Keeps, Agreement}
+use Rattle.agreement.specs.Agreement.{end_of, start, after, Agrees, Keeps}
 use Rattle.agreement.proofs.Moves.{Pos, at, halt, blank, move}
 use Rattle.agreement.proofs.Runs.{Run, Got, arrives, stops, cuts, Placed, nothing, place}
 use Rattle.agreement.proofs.Acts.{ends_at}
@@ -192,5 +192,6 @@ module _ (b : Body) (st : List ℕ) (σ : Store) (within : Within b (length σ))
         least = λ m e q. least_of m (counting m) e q;
       }
 
-pub agreement : Agreement
+-- every cell that the source names is there, and the stack that is lent is as large as the depth
+pub agreement : (b : Body) (st : List ℕ) (σ : Store) → Within b (length σ) → depth b ≤ length st → Keeps b st σ
 agreement = keeps

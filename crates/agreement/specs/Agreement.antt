@@ -7,7 +7,10 @@ use Rattle.machine.specs.declared.ending.Ending.TheVariants.{Halted, Stopped}
 use Rattle.machine.specs.Endings.{number_of}
 use Rattle.machine.specs.Machine.{State, state, run}
 use Rattle.meaning.specs.Effects.{Store, Write, leave, Effect, effect, cut, writes_of}
-use Rattle.meaning.specs.Meaning.{exec, Within}
+use Rattle.meaning.specs.Meaning.{exec}
+use Rattle.trees.specs.Trees.{Program}
+use Rattle.checks.specs.Rules.{Right, widths}
+use Rattle.checks.specs.Writing.{resolve}
 
 -- how a source ends: not where the bound was met
 abbrev pub end_of : Effect (Unit {0}) → Option Ending
@@ -47,6 +50,6 @@ pub record Keeps (b : Body) (st : List ℕ) (σ : Store) : Type 0 where
   pub least : (m : ℕ) (e : Ending) → (after b st σ m).vm.ending ≡ Some e →
       (n : ℕ) × (n ≤ m) × ((after b st σ m).vm.steps ≡ n) × ((j : ℕ) → j < n → (after b st σ j).vm.ending ≡ None) × ((j : ℕ) → n ≤ j → after b st σ j ≡ after b st σ m)
 
--- every cell that the source names is there, and the stack that is lent is as large as the depth
+-- of a source that keeps the rules, over a store with its cells and a stack as large as its depth
 abbrev pub Agreement : Type 0
-Agreement = (b : Body) (st : List ℕ) (σ : Store) → Within b (length σ) → depth b ≤ length st → Keeps b st σ
+Agreement = (p : Program) (st : List ℕ) (σ : Store) → Right p → widths p.decls ≤ length σ → depth (resolve p) ≤ length st → Keeps (resolve p) st σ

@@ -7,9 +7,9 @@ use Rattle.machine.specs.declared.ending.Ending.TheVariants.{Halted, Stopped}
 use Rattle.machine.specs.Machine.{state}
 use Rattle.meaning.specs.Meaning.{Within}
 use Rattle.meaning.specs.Examples.{plain, filling}
-use Rattle.session.specs.declared.call.Call.TheVariants.{Resume, Look, Report}
-use Rattle.session.specs.Sessions.{begun}
-use Rattle.session.specs.Calls.{played}
+use Rattle.machine.specs.declared.call.Call.TheVariants.{Resume, Look, Report}
+use Rattle.machine.specs.Sessions.{begun}
+use Rattle.machine.specs.Calls.{played}
 use Rattle.agreement.specs.Agreement.{after, Keeps}
 
 pub record Examples : Type 0 where

@@ -2,3 +2,4 @@ pub mod Agreement
 pub mod Sessions
 pub mod Examples
 pub mod Named
+pub mod Heights

@@ -1,9 +1,10 @@
 -- The cells that code names are the source's.
 use Rattle.std.specs.Prelude.{◌≡◌, ℕ, ◌+◌, ◌<◌, ◌≤◌, List, ◌∷◌, ◌++◌}
 use Rattle.words.specs.declared.instr.Instr.{Instr}
-use Rattle.typed.specs.Trees.{Body}
+use Rattle.trees.specs.Trees.{Program}
 use Rattle.typed.specs.Code.{program}
-use Rattle.meaning.specs.Meaning.{Within}
+use Rattle.checks.specs.Rules.{Right, widths}
+use Rattle.checks.specs.Writing.{resolve}
 
 -- each instruction that names a cell, or the cells of an array, names some of the first n
 pub record Names (n : ℕ) (i : Instr) : Type 0 where
@@ -14,6 +15,6 @@ pub record Names (n : ℕ) (i : Instr) : Type 0 where
   pub for : i.number ≡ 32 → i.a < n
   pub next : i.number ≡ 33 → i.a < n
 
--- the source is within n cells, and so is each instruction of its code
+-- each instruction of the code of a source that keeps the rules names cells of the source's
 abbrev pub Celled : Type 0
-Celled = (b : Body) (n : ℕ) → Within b n → (front rest : List Instr) (i : Instr) → program b ≡ front ++ i ∷ rest → Names n i
+Celled = (p : Program) → Right p → (front rest : List Instr) (i : Instr) → program (resolve p) ≡ front ++ i ∷ rest → Names (widths p.decls) i

@@ -5,12 +5,15 @@ use Rattle.typed.specs.Code.{program, depth}
 use Rattle.machine.specs.declared.ending.Ending.{Ending}
 use Rattle.machine.specs.Endings.{number_of}
 use Rattle.machine.specs.Machine.{State, state}
-use Rattle.session.specs.declared.call.Call.{Call}
-use Rattle.session.specs.declared.call.Call.TheVariants.{Resume, Look, Report}
-use Rattle.session.specs.Sessions.{most, begun}
-use Rattle.session.specs.Calls.{played}
+use Rattle.machine.specs.declared.call.Call.{Call}
+use Rattle.machine.specs.declared.call.Call.TheVariants.{Resume, Look, Report}
+use Rattle.machine.specs.Sessions.{most, begun}
+use Rattle.machine.specs.Calls.{played}
 use Rattle.meaning.specs.Effects.{Store, leave, writes_of}
-use Rattle.meaning.specs.Meaning.{exec, Within}
+use Rattle.meaning.specs.Meaning.{exec}
+use Rattle.trees.specs.Trees.{Program}
+use Rattle.checks.specs.Rules.{Right, widths}
+use Rattle.checks.specs.Writing.{resolve}
 use Rattle.agreement.specs.Agreement.{end_of, after}
 
 -- the sum of all limits, those of refused resumes too
@@ -40,19 +43,21 @@ writes_in b st σ (suc m) = writes_in b st σ m + cond (writing b st σ m) 1 0
 
 -- The promise, of the session x that calls with limits of l in all leave, where the source has c cells.
 -- It holds after every list of calls, so after each call of one.
-pub record Promise (b : Body) (c : ℕ) (st : List ℕ) (σ : Store) (l : ℕ) (x : State) : Type 0 where
-  -- the session is the machine after as many steps as it reports
-  pub machine : x ≡ after b st σ x.vm.steps
-  -- The writes it reports are those of that many steps. The source has as many with some bound, and with every bound
-  -- that gives so many, the first of them make the cells.
+
+-- The store and the count. The writes that are reported are those of the steps reported. The source makes as many with some
+-- bound, and with every bound that gives so many, the first of them make the cells.
+pub record StoreAndCount (b : Body) (st : List ℕ) (σ : Store) (x : State) : Type 0 where
   pub writes : x.vm.writes ≡ writes_in b st σ x.vm.steps
   pub reached : (k : ℕ) × (x.vm.writes ≤ length (writes_of (exec b k σ)))
   pub cells : (k : ℕ) → x.vm.writes ≤ length (writes_of (exec b k σ)) → x.cells ≡ leave (take x.vm.writes (writes_of (exec b k σ))) σ
-  -- the cells that are not the source's keep their words
-  pub others : (i : ℕ) → c ≤ i → slice_index x.cells i ≡ slice_index σ i
-  -- the endings 6 to 9 never come, and the stack stays within the depth
+
+-- Endings and height. The endings 6 to 9 never come, and the stack stays within the depth.
+pub record EndingsAndHeight (b : Body) (x : State) : Type 0 where
   pub sound : (e : Ending) → x.vm.ending ≡ Some e → number_of e ≤ 4
   pub low : x.vm.height ≤ depth b
+
+-- The end and the steps.
+pub record EndAndSteps (b : Body) (st : List ℕ) (σ : Store) (l : ℕ) (x : State) : Type 0 where
   -- the steps are the smallest of the most, of the sum of all limits, and of n if the code ends in n steps
   pub steps : (n : ℕ) (e : Ending) → EndsIn b st σ n e → x.vm.steps ≡ min most (min l n)
   pub going : ((n : ℕ) (e : Ending) → EndsIn b st σ n e → ⊥) → x.vm.steps ≡ min most l
@@ -65,9 +70,19 @@ pub record Promise (b : Body) (c : ℕ) (st : List ℕ) (σ : Store) (l : ℕ) (
   pub ends : (k : ℕ) (e : Ending) → end_of (exec b k σ) ≡ Some e → (n : ℕ) × EndsIn b st σ n e
   pub back : (n : ℕ) (e : Ending) → EndsIn b st σ n e → (k : ℕ) × (end_of (exec b k σ) ≡ Some e)
 
--- Every list of calls on a session that is started with the code, the c cells and the depth of a source: the code is not
--- too long, and the stack and the store that are lent are large enough.
+pub record Promise (b : Body) (c : ℕ) (st : List ℕ) (σ : Store) (l : ℕ) (x : State) : Type 0 where
+  pub store : StoreAndCount b st σ x
+  pub endings : EndingsAndHeight b x
+  pub end : EndAndSteps b st σ l x
+  -- Beyond these three: the session is the machine after as many steps as it reports, and the cells that are not the source's
+  -- keep their words.
+  pub machine : x ≡ after b st σ x.vm.steps
+  pub others : (i : ℕ) → c ≤ i → slice_index x.cells i ≡ slice_index σ i
+
+-- Every list of calls on a session that is started with the code, the cells and the depth of a source that keeps the rules:
+-- the code is not too long, and the stack and the store that are lent are large enough.
 abbrev pub Kept : Type 0
 Kept =
-    (b : Body) (c : ℕ) (st : List ℕ) (σ : Store) → Within b c → length (program b) ≤ 16383 → depth b ≤ length st → c ≤ length σ → (xs : List Call) →
-    Promise b c st σ (limits xs) (played c (depth b) (program b) xs (state begun st σ))
+    (p : Program) (st : List ℕ) (σ : Store) → Right p → length (program (resolve p)) ≤ 16383 → depth (resolve p) ≤ length st → widths p.decls ≤ length σ →
+    (xs : List Call) →
+    Promise (resolve p) (widths p.decls) st σ (limits xs) (played (widths p.decls) (depth (resolve p)) (program (resolve p)) xs (state begun st σ))

@@ -1,11 +1,11 @@
 -- INTEGERs in 32 bits.
-use Rattle.std.proofs.Common.{◌≡◌, ℕ, suc, ◌-◌, ◌*◌, ◌/◌, ◌<◌, ◌≤◌, true, false, ℤ, pos, negsuc, ◌+ℤ◌, ◌-ℤ◌, ◌*ℤ◌, neg_ℤ, nat_abs, Ok, Err, ap, div-le_self, arith, w32, SFits, to_z, of_z}
+use Rattle.std.proofs.Common.{◌≡◌, ℕ, suc, ◌-◌, ◌*◌, ◌/◌, ◌<◌, ◌≤◌, true, false, ℤ, pos, negsuc, ◌+ℤ◌, ◌-ℤ◌, ◌*ℤ◌, neg_ℤ, nat_abs, Ok, ap, div-le_self, arith, w32, SFits, to_z, of_z}
 use lib.Signed.{mag_rem, lt_z, quot_z, rem_z}
 use Rattle.std.proofs.lemmas.Int.{ints, to_z-of_z}
 use Rattle.std.proofs.lemmas.Bool.{lt-ltb, le-ltb, ltb-true, ltb-false, true≢false, false≢true}
 use Rattle.std.proofs.lemmas.Bool.Decides.{nat_tests}
 use Rattle.std.proofs.lemmas.Nat.{mul-le}
-use Rattle.arith.specs.declared.stop.Stop.TheVariants.{Overflow}
+use Rattle.arith.specs.Stops.{stop}
 use Rattle.arith.specs.Integers.{int, fitted, Small}
 
 pub int_low : (w : ℕ) → w < 32768 → to_z w32 w ≡ int w
@@ -52,12 +52,12 @@ over f a b x y p q g h k = rw (to_z-of_z w32 a g, to_z-of_z w32 b h, to_z-of_z w
 pub lt_z_pos : (a b : ℕ) → lt_z (pos a) (pos b) ≡ true → a < b
 lt_z_pos a b h = ltb-true a b h
 
-pub fit_high : (v : ℤ) → lt_z (pos 32767) v ≡ true → Err Overflow ≡ fitted v
+pub fit_high : (v : ℤ) → lt_z (pos 32767) v ≡ true → stop 1 ≡ fitted v
 unfolding fitted
 fit_high (pos n) h = rw (le-ltb n 32768 (omega (arith, ltb-true 32767 n h)))
 fit_high (negsuc n) h = absurd (false≢true h)
 
-pub fit_low : (v : ℤ) → lt_z v (negsuc 32767) ≡ true → Err Overflow ≡ fitted v
+pub fit_low : (v : ℤ) → lt_z v (negsuc 32767) ≡ true → stop 1 ≡ fitted v
 unfolding fitted
 fit_low (pos n) h = absurd (false≢true h)
 fit_low (negsuc n) h = rw (le-ltb n 32768 (omega (arith, ltb-true 32767 n h)))

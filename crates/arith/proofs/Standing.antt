@@ -1,11 +1,11 @@
 -- The laws of the operations, proved.
-use Rattle.std.proofs.Common.{◌≡◌, ℕ, zero, suc, ◌+◌, ◌-◌, ◌*◌, ◌/◌, ◌%◌, ◌<◌, ◌≤◌, Bool, true, false, cond, eqb, ltb, ◌⊎◌, ℤ, pos, negsuc, ◌+ℤ◌, ◌-ℤ◌, ◌*ℤ◌, neg_ℤ, nat_abs, ◌≤ℤ◌, ◌<ℤ◌, Ok, Err, sym, refl, ap, ◌∙◌, inl, inr, zero-mul, arith}
+use Rattle.std.proofs.Common.{◌≡◌, ℕ, zero, suc, ◌+◌, ◌-◌, ◌*◌, ◌/◌, ◌%◌, ◌<◌, ◌≤◌, Bool, true, false, cond, eqb, ltb, ◌⊎◌, ℤ, pos, negsuc, ◌+ℤ◌, ◌-ℤ◌, ◌*ℤ◌, neg_ℤ, nat_abs, ◌≤ℤ◌, ◌<ℤ◌, Ok, sym, refl, ap, ◌∙◌, inl, inr, zero-mul, arith}
 use lib.Signed.{mag_rem, lt_z, le_z, quot_z, rem_z}
 use Rattle.std.proofs.lemmas.Int.{ints}
 use Rattle.std.proofs.lemmas.Bool.{lt-ltb, le-ltb, ltb-true, ltb-false, ne_eqb, and_parts, and_cases}
 use Rattle.std.proofs.lemmas.Bool.Decides.{nat_tests}
 use Rattle.std.proofs.lemmas.Nat.{div-add-mod', mod_below}
-use Rattle.arith.specs.declared.stop.Stop.TheVariants.{Overflow, ZeroDivisor}
+use Rattle.arith.specs.Stops.{stop}
 use Rattle.arith.specs.declared.relation.Relation.{Relation}
 use Rattle.arith.specs.declared.relation.Relation.TheVariants.{Equal, Unequal, Less, AtMost, Greater, AtLeast}
 use Rattle.arith.specs.declared.shift.Kind.{Kind}
@@ -19,6 +19,7 @@ use Rattle.arith.specs.Laws.{Arithmetic, Exactly, Divides, InRange, Residue}
 use Rattle.arith.proofs.Bitwise.{and_bits, or_bits, xor_bits, turned_bits}
 use Rattle.arith.proofs.Compared.{compared_says, lcompared_says}
 use Rattle.arith.proofs.Fielded.{deposit_back, bits_above, bits_under, field_bits, field_small}
+use Rattle.arith.proofs.Numbered.{stops_back}
 use Rattle.arith.proofs.Shifted.{lsl_bits, lsl_fill, lsr_bits, lsr_fill, asr_bits, asr_repeat, csl_bits, csl_round, round_back}
 
 -- INTEGERs
@@ -42,7 +43,7 @@ int_apart : (v w : ℕ) → v < 65536 → w < 65536 → int v ≡ int w → v �
 unfolding int
 int_apart v w h k e = grind (arith, nat_tests, ints)
 
-exactly_cond : (z : ℤ) (t : Bool) (w : ℕ) → (t ≡ true → Exactly z (Ok w)) → (t ≡ false → Exactly z (Err Overflow)) → Exactly z (cond t (Ok w) (Err Overflow))
+exactly_cond : (z : ℤ) (t : Bool) (w : ℕ) → (t ≡ true → Exactly z (Ok w)) → (t ≡ false → Exactly z (stop 1)) → Exactly z (cond t (Ok w) (stop 1))
 exactly_cond z true w f g = f refl
 exactly_cond z false w f g = g refl
 
@@ -122,7 +123,7 @@ divided_exact y x h k =
       rw e (exact (rem_z (int y) (int x))),
     )
 
-by_zero : (y : ℕ) → (quotient y 0 ≡ Err ZeroDivisor) × (remainder y 0 ≡ Err ZeroDivisor)
+by_zero : (y : ℕ) → (quotient y 0 ≡ stop 2) × (remainder y 0 ≡ stop 2)
 unfolding quotient remainder
 by_zero y = (refl, refl)
 
@@ -149,7 +150,7 @@ ldivided y x k =
     let e : eqb x 0 ≡ false = ne_eqb x 0 k in
     (y / x, y % x, rw e, rw e, sym (div-add-mod' y x), mod_below y x (omega arith))
 
-lby_zero : (y : ℕ) → (lquotient y 0 ≡ Err ZeroDivisor) × (lremainder y 0 ≡ Err ZeroDivisor)
+lby_zero : (y : ℕ) → (lquotient y 0 ≡ stop 2) × (lremainder y 0 ≡ stop 2)
 unfolding lquotient lremainder
 lby_zero y = (refl, refl)
 
@@ -209,6 +210,7 @@ stands =
       refused = index_refused;
       compares = λ r y x h k. compared_says r y x (int_apart y x h k);
       lcompares = lcompared_says;
+      stops = stops_back;
       relations = relations_back;
       kinds = kinds_back;
       ands = and_bits;

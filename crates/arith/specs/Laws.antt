@@ -1,7 +1,7 @@
 -- What the operations on words are, said of the numbers and of the bits.
 use Rattle.std.specs.Prelude.{◌≡◌, ℕ, ◌+◌, ◌-◌, ◌*◌, ◌%◌, ◌^◌, ◌<◌, ◌≤◌, true, false, ◌⊎◌, ℤ, pos, negsuc, ◌+ℤ◌, ◌-ℤ◌, ◌*ℤ◌, neg_ℤ, ◌≤ℤ◌, ◌<ℤ◌, Ok, Err, Result, ◌≢◌, bit_and, bit_or, bit_xor, unsigned_abs}
 use Rattle.arith.specs.declared.stop.Stop.{Stop}
-use Rattle.arith.specs.declared.stop.Stop.TheVariants.{Overflow, ZeroDivisor}
+use Rattle.arith.specs.Stops.{number_of, stop, stop_of}
 use Rattle.arith.specs.declared.relation.Relation.{Relation}
 use Rattle.arith.specs.declared.relation.Relation.TheVariants.{Equal, Unequal, Less, AtMost, Greater, AtLeast}
 use Rattle.arith.specs.declared.shift.Kind.{Kind}
@@ -16,10 +16,10 @@ use Rattle.arith.specs.Shifts.{kind_number, kind_of, shifted}
 abbrev pub InRange : ℤ → Type 0
 InRange z = (negsuc 32767 ≤ℤ z) × (z ≤ℤ pos 32767)
 
--- the answer is exactly z, a word that reads as z; it is the stop exactly where z is out of range
+-- the answer is exactly z, a word that reads as z; it is stop 1 exactly where z is out of range
 abbrev pub Exactly : ℤ → Result ℕ Stop → Type 0
 Exactly z (Ok w) = (w < 65536) × (int w ≡ z)
-Exactly z (Err e) = (e ≡ Overflow) × (InRange z → ⊥)
+Exactly z (Err e) = (e ≡ stop_of 1) × (InRange z → ⊥)
 
 -- q is y / x toward zero, and r what is left: smaller than x, and on y's side of 0
 abbrev pub Divides : ℤ → ℤ → ℤ → ℤ → Type 0
@@ -53,20 +53,21 @@ pub record Arithmetic : Type 0 where
   pub multiplies : (y x : ℕ) → Exactly (int y *ℤ int x) (product y x)
   pub negates : (x : ℕ) → Exactly (neg_ℤ (int x)) (negation x)
   pub divides : (y x : ℕ) → x < 65536 → (x ≢ 0) → (q : ℤ) × (r : ℤ) × Divides (int y) (int x) q r × Exactly q (quotient y x) × Exactly r (remainder y x)
-  pub by_zero : (y : ℕ) → (quotient y 0 ≡ Err ZeroDivisor) × (remainder y 0 ≡ Err ZeroDivisor)
+  pub by_zero : (y : ℕ) → (quotient y 0 ≡ stop 2) × (remainder y 0 ≡ stop 2)
   -- LOGICALs go round at 65,536
   pub ladds : (y x : ℕ) → Residue (y + x) (lsum y x)
   pub lsubtracts : (y x : ℕ) → y < 65536 → x < 65536 → (ldifference y x < 65536) × (lsum (ldifference y x) x ≡ y)
   pub lmultiplies : (y x : ℕ) → Residue (y * x) (lproduct y x)
   pub ldivides : (y x : ℕ) → (x ≢ 0) → (q : ℕ) × (r : ℕ) × (lquotient y x ≡ Ok q) × (lremainder y x ≡ Ok r) × (y ≡ q * x + r) × (r < x)
-  pub lby_zero : (y : ℕ) → (lquotient y 0 ≡ Err ZeroDivisor) × (lremainder y 0 ≡ Err ZeroDivisor)
+  pub lby_zero : (y : ℕ) → (lquotient y 0 ≡ stop 2) × (lremainder y 0 ≡ stop 2)
   -- an index is tested as an INTEGER
   pub tested : (i n : ℕ) → within i n ≡ true → (pos 0 ≤ℤ int i) × (int i <ℤ pos n)
   pub refused : (i n : ℕ) → within i n ≡ false → (int i <ℤ pos 0) ⊎ (pos n ≤ℤ int i)
   -- words are compared as INTEGERs, or as the LOGICALs that they are
   pub compares : (r : Relation) (y x : ℕ) → y < 65536 → x < 65536 → Says (compared r y x) (Related r (int y) (int x))
   pub lcompares : (r : Relation) (y x : ℕ) → Says (lcompared r y x) (Related r (pos y) (pos x))
-  -- numbers of relations and shifts
+  -- numbers of stops, relations and shifts
+  pub stops : (s : Stop) → stop_of (number_of s) ≡ s
   pub relations : (r : Relation) → relation_of (relation_number r) ≡ r
   pub kinds : (k : Kind) → kind_of (kind_number k) ≡ k
   -- bit by bit

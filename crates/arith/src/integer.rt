@@ -1,6 +1,7 @@
 // Words as INTEGERs, in two's complement. They are worked out in 32 bits, where nothing overflows.
 ghost use Rattle.std.specs.Prelude.{◌≡◌};
 ghost use Rattle.arith.specs.Integers.{int, fitted, Small, sum, difference, product, quotient, remainder, negation};
+ghost use Rattle.arith.specs.Stops.{number_of};
 ghost use Rattle.arith.specs.Integers.{subscript as subscript_of, chosen as chosen_of, turns as turns_of, within as within_of, below as below_of};
 
 use super::stop::Stop;
@@ -93,9 +94,10 @@ fn within(i: u16, n: u16) -> bool
 }
 
 // i, if it is one of the first n numbers from 0.
+#[tactic(auto, using(crate::proofs::Numbered::stops_back))]
 #[inline(always)]
 fn below(i: u16, n: u16, past: Stop) -> Result<u16, Stop>
-    ensures { result ≡ below_of past i n }
+    ensures { result ≡ below_of (number_of past) i n }
 {
     if within(i, n) { Ok(i) } else { Err(past) }
 }

@@ -32,7 +32,9 @@ pub struct UnknownRelation(pub u16);
 impl TryFrom<u16> for Relation {
     type Error = UnknownRelation;
 
-    ghost try_from_gives = { λ number r. MatchResult r (λ by. relation_at number ≡ Some by) (λ _. relation_at number ≡ None) };
+    ghost try_from_gives = { λ number r. MatchResult r
+        (λ by. relation_at number ≡ Some by)
+        (λ e. (e ≡ record { 0 = number }) × (relation_at number ≡ None)) };
 
     #[inline(always)]
     fn try_from(number: u16) -> Result<Relation, UnknownRelation> {

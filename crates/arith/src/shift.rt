@@ -29,7 +29,9 @@ pub struct UnknownShift(pub u16);
 impl TryFrom<u16> for Kind {
     type Error = UnknownShift;
 
-    ghost try_from_gives = { λ number r. MatchResult r (λ kind. (number ≤ 4) × (kind ≡ kind_of number)) (λ _. 4 < number) };
+    ghost try_from_gives = { λ number r. MatchResult r
+        (λ kind. (number ≤ 4) × (kind ≡ kind_of number))
+        (λ e. (e ≡ record { 0 = number }) × (4 < number)) };
 
     #[inline(always)]
     fn try_from(number: u16) -> Result<Kind, UnknownShift> {

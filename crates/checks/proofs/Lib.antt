@@ -14,3 +14,10 @@ pub mod SizeRules
 pub mod NamedCells
 pub mod Faultless
 pub mod TypeRules
+pub mod Least
+pub mod Shares
+pub mod NamesStand
+pub mod TypesStand
+pub mod SizesStand
+pub mod SourceOrder
+pub mod Verdicts

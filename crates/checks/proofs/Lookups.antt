@@ -1,5 +1,5 @@
 -- A search by name, and what it finds. Assumes nothing.
-use Rattle.std.proofs.Common.{◌≡◌, ℕ, zero, suc, true, false, List, [], ◌∷◌, map, get_or, Some, None, refl, ⊎_elim, arith}
+use Rattle.std.proofs.Common.{◌≡◌, ℕ, zero, suc, true, false, List, [], ◌∷◌, map, get_or, Some, None, refl, ap, ◌∙◌, ⊎_elim, arith}
 use Rattle.std.proofs.lemmas.Slice.Eq.{bytes_eq-Decides}
 use Rattle.std.proofs.lemmas.Bool.{cases_Bool}
 use Rattle.std.specs.Str.{bytes_eq}
@@ -29,8 +29,8 @@ look_none (e ∷ es) w h = rw (other (spelled e) w (h 0 (omega arith))) (look_no
 
 -- of the entries that were searched, for the name that was sought
 module _ (es : List NameEntry) {fs : List NameEntry} {v w : List ℕ} (same_entries : fs ≡ es) (same_name : v ≡ w) where
-  pub get_some : (i : ℕ) (d : NameEntry) → First (map spelled fs) v (Some i) → Some (row_as (get_or fs i d)) ≡ look (map row_as es) w
-  get_some i d h = rw (← same_entries, ← same_name) (look_some fs v i d h)
+  pub get_some : (i : ℕ) (e : NameEntry) → e ≡ get_or fs i e → First (map spelled fs) v (Some i) → Some (row_as e) ≡ look (map row_as es) w
+  get_some i e m h = ap (λ (x : NameEntry). Some (row_as x)) m ∙ rw (← same_entries, ← same_name) (look_some fs v i e h)
 
   pub get_none : First (map spelled fs) v None → None ≡ look (map row_as es) w
   get_none h = rw (← same_entries, ← same_name) (look_none fs v h)

@@ -15,9 +15,9 @@ use Rattle.checks.specs.Writing.{emits, spent, first, writes}
 use Rattle.checks.specs.Sizes.{cells_fault, range_fault, size_faults}
 
 -- the entries from the place i on
-pub one_more : (ns : List Node) (i : ℕ) (n : Node) → i < length ns → entries (drop i ns) ≡ entry_of (get_or ns i n) ∷ entries (drop (i + 1) ns)
+pub one_more : (ns : List Node) (i : ℕ) (n : Node) → i < length ns → n ≡ get_or ns i n → entries (drop i ns) ≡ entry_of n ∷ entries (drop (i + 1) ns)
 unfolding entries
-one_more ns i n l = rw (add-one, drop-cons ns i n l)
+one_more ns i n l m = rw (add-one, drop-cons ns i n l, ← m)
 
 pub none_left : (ns : List Node) (i : ℕ) → length ns ≤ i → entries (drop i ns) ≡ []
 unfolding entries
@@ -30,10 +30,10 @@ kept_first f (Some g) fs = refl
 
 -- the stage of names: one entry more, and all of them
 module _ (ns : List Node) (i : ℕ) (f : Option Refusal) (t : Table) (x : Option Refusal) (y : Table) (inv : (least_from f (name_faults t (entries (drop i ns))) ≡ x) × (table_from t (entries (drop i ns)) ≡ y)) where
-  pub names_more : (n : Node) (g h : Option Refusal) (u : Table) → i < length ns → g ≡ name_fault t (entry_of (get_or ns i n)) → h ≡ soonest f g → u ≡ entered t (entry_of (get_or ns i n)) → (least_from h (name_faults u (entries (drop (i + 1) ns))) ≡ x) × (table_from u (entries (drop (i + 1) ns)) ≡ y)
-  names_more n g h u l eg eh eu =
-      let e = one_more ns i n l in (
-        rw (eh, eg, eu) (sym (kept_first f (name_fault t (entry_of (get_or ns i n))) _) ∙ ap (λ es. least_from f (name_faults t es)) (sym e) ∙ inv.0),
+  pub names_more : (n : Node) (g h : Option Refusal) (u : Table) → i < length ns → n ≡ get_or ns i n → g ≡ name_fault t (entry_of n) → h ≡ soonest f g → u ≡ entered t (entry_of n) → (least_from h (name_faults u (entries (drop (i + 1) ns))) ≡ x) × (table_from u (entries (drop (i + 1) ns)) ≡ y)
+  names_more n g h u l m eg eh eu =
+      let e = one_more ns i n l m in (
+        rw (eh, eg, eu) (sym (kept_first f (name_fault t (entry_of n)) _) ∙ ap (λ es. least_from f (name_faults t es)) (sym e) ∙ inv.0),
         rw eu (ap (table_from t) (sym e) ∙ inv.1),
       )
 
@@ -42,22 +42,22 @@ module _ (ns : List Node) (i : ℕ) (f : Option Refusal) (t : Table) (x : Option
 
 -- the stage of types
 module _ (ns : List Node) (i : ℕ) (f : Option Refusal) (t : Table) (s : List Kind) (x : Option Refusal) (inv : least_from f (type_faults t (entries (drop i ns)) s) ≡ x) where
-  pub types_more : (n : Node) (r : Rule) (g h : Option Refusal) (s' : List Kind) → i < length ns → r ≡ rule_of t (entry_of (get_or ns i n)) → g ≡ clash r s → h ≡ soonest f g → s' ≡ after r s → least_from h (type_faults t (entries (drop (i + 1) ns)) s') ≡ x
-  types_more n r g h s' l er eg eh es =
-      rw (eh, eg, es, er) (sym (kept_first f (clash (rule_of t (entry_of (get_or ns i n))) s) _) ∙ ap (λ z. least_from f (type_faults t z s)) (sym (one_more ns i n l)) ∙ inv)
+  pub types_more : (n : Node) (r : Rule) (g h : Option Refusal) (s' : List Kind) → i < length ns → n ≡ get_or ns i n → r ≡ rule_of t (entry_of n) → g ≡ clash r s → h ≡ soonest f g → s' ≡ after r s → least_from h (type_faults t (entries (drop (i + 1) ns)) s') ≡ x
+  types_more n r g h s' l m er eg eh es =
+      rw (eh, eg, es, er) (sym (kept_first f (clash (rule_of t (entry_of n)) s) _) ∙ ap (λ z. least_from f (type_faults t z s)) (sym (one_more ns i n l m)) ∙ inv)
 
   pub types_all : length ns ≤ i → f ≡ x
   types_all l = ap (λ es. least_from f (type_faults t es s)) (sym (none_left ns i l)) ∙ inv
 
 -- the stage of sizes
 module _ (ns : List Node) (i : ℕ) (f : Option Refusal) (t : Table) (x : Option Refusal) (inv : least_from f (size_faults t (entries (drop i ns))) ≡ x) where
-  pub sizes_more : (n : Node) (g h j k : Option Refusal) → i < length ns → g ≡ cells_fault t (decl_of (entry_of (get_or ns i n))) → h ≡ soonest f g → j ≡ range_fault (entry_of (get_or ns i n)) → k ≡ soonest h j → least_from k (size_faults t (entries (drop (i + 1) ns))) ≡ x
-  sizes_more n g h j k l eg eh ej ek =
-      let e = entry_of (get_or ns i n) in
+  pub sizes_more : (n : Node) (g h j k : Option Refusal) → i < length ns → n ≡ get_or ns i n → g ≡ cells_fault t (decl_of (entry_of n)) → h ≡ soonest f g → j ≡ range_fault (entry_of n) → k ≡ soonest h j → least_from k (size_faults t (entries (drop (i + 1) ns))) ≡ x
+  sizes_more n g h j k l m eg eh ej ek =
+      let e = entry_of n in
       rw (ek, eh, eg, ej)
       (sym (kept_first (soonest f (cells_fault t (decl_of e))) (range_fault e) _)
       ∙ sym (kept_first f (cells_fault t (decl_of e)) _)
-      ∙ ap (λ z. least_from f (size_faults t z)) (sym (one_more ns i n l))
+      ∙ ap (λ z. least_from f (size_faults t z)) (sym (one_more ns i n l m))
       ∙ inv)
 
   pub sizes_all : length ns ≤ i → f ≡ x
@@ -65,11 +65,11 @@ module _ (ns : List Node) (i : ℕ) (f : Option Refusal) (t : Table) (x : Option
 
 -- the typed list
 module _ (ns : List Node) (i : ℕ) (out : List Item) (t : Table) (s : List Kind) (ms : List ℕ) (x : List Item) (inv : out ++ writes t (entries (drop i ns)) s ms ≡ x) where
-  pub writes_more : (n : Node) (r : Rule) (is out' : List Item) (s' : List Kind) (ms' : List ℕ) → i < length ns → is ≡ emits t (second s) (first ms) (entry_of (get_or ns i n)) → out' ≡ out ++ is → r ≡ rule_of t (entry_of (get_or ns i n)) → s' ≡ after r s → ms' ≡ spent (entry_of (get_or ns i n)) ms → out' ++ writes t (entries (drop (i + 1) ns)) s' ms' ≡ x
-  writes_more n r is out' s' ms' l ei eo er es em =
+  pub writes_more : (n : Node) (r : Rule) (is out' : List Item) (s' : List Kind) (ms' : List ℕ) → i < length ns → n ≡ get_or ns i n → is ≡ emits t (second s) (first ms) (entry_of n) → out' ≡ out ++ is → r ≡ rule_of t (entry_of n) → s' ≡ after r s → ms' ≡ spent (entry_of n) ms → out' ++ writes t (entries (drop (i + 1) ns)) s' ms' ≡ x
+  writes_more n r is out' s' ms' l m ei eo er es em =
       rw (eo, ei, es, er, em)
-      (append_assoc out (emits t (second s) (first ms) (entry_of (get_or ns i n))) _
-      ∙ ap (λ z. out ++ writes t z s ms) (sym (one_more ns i n l))
+      (append_assoc out (emits t (second s) (first ms) (entry_of n)) _
+      ∙ ap (λ z. out ++ writes t z s ms) (sym (one_more ns i n l m))
       ∙ inv)
 
   pub writes_all : length ns ≤ i → out ≡ x

@@ -15,19 +15,19 @@ use Rattle.checks.specs.Rules.{Suits, TypedE, OfKind, TypedL, TypedC, TypedP, Ty
 use Rattle.checks.proofs.Narrowing.{least_none}
 use Rattle.checks.proofs.Faultless.{tested, untold, none_least}
 
-same_kind : (w k : Kind) → is_kind w k ≡ true → k ≡ w
+pub same_kind : (w k : Kind) → is_kind w k ≡ true → k ≡ w
 same_kind Integer Integer e = refl
 same_kind Integer Logical e = absurd (let z : ◌≡◌ {A = ℕ} 0 1 = cc in omega arith)
 same_kind Logical Integer e = absurd (let z : ◌≡◌ {A = ℕ} 0 1 = cc in omega arith)
 same_kind Logical Logical e = refl
 
-kind_same : (w k : Kind) → k ≡ w → is_kind w k ≡ true
+pub kind_same : (w k : Kind) → k ≡ w → is_kind w k ≡ true
 kind_same Integer Integer e = refl
 kind_same Integer Logical e = absurd (let z : ◌≡◌ {A = ℕ} 0 1 = cc in omega arith)
 kind_same Logical Integer e = absurd (let z : ◌≡◌ {A = ℕ} 0 1 = cc in omega arith)
 kind_same Logical Logical e = refl
 
-suits_there : (o : Operator) (k : Kind) → takes_kind o k ≡ true → Suits o k
+pub suits_there : (o : Operator) (k : Kind) → takes_kind o k ≡ true → Suits o k
 suits_there Times k e = tt
 suits_there Divide k e = tt
 suits_there Mod k e = tt
@@ -43,7 +43,7 @@ suits_there Land k e = same_kind Logical k e
 suits_there Xor k e = same_kind Logical k e
 suits_there Lor k e = same_kind Logical k e
 
-suits_back : (o : Operator) (k : Kind) → Suits o k → takes_kind o k ≡ true
+pub suits_back : (o : Operator) (k : Kind) → Suits o k → takes_kind o k ≡ true
 suits_back Times k e = refl
 suits_back Divide k e = refl
 suits_back Mod k e = refl

@@ -12,3 +12,7 @@ pub mod Views
 pub mod Entered
 pub mod Tabled
 pub mod Works
+pub mod Deciding
+pub mod Parts
+pub mod Standing
+pub mod Verdicts

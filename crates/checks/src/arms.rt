@@ -54,13 +54,15 @@ impl Arms {
         match node {
             Node::Case(_) => {
                 let n = self.take();
-                self.closed.push(n);
+                let _ = self.closed.push(n);
             }
             Node::Arm => {
                 let n = self.take();
-                self.opened.push(n + 1);
+                let _ = self.opened.push(n + 1);
             }
-            Node::Esac => self.opened.push(0),
+            Node::Esac => {
+                let _ = self.opened.push(0);
+            }
             _ => {}
         }
     }

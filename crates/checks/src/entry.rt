@@ -52,21 +52,23 @@ impl Default for NameEntry {
     }
 }
 
-// Completes the entry of a name whose high bound was read, if it has one, and answers how many cells it takes.
-pub(crate) fn complete(entry: &mut NameEntry, high: Option<u16>) -> u32
-    ensures row { row_as entry.new ≡ completed (row_as entry.old) high }
-    ensures cells { result ≡ cells_of high }
-    ensures bound { result ≤ 65536 }
-{
-    match high {
-        None => {
-            entry.cells = 1;
-            1
-        }
-        Some(h) => {
-            entry.sort = Sort::Array;
-            entry.cells = h as u32 + 1;
-            h as u32 + 1
+impl NameEntry {
+    // Completes the entry of a name whose high bound was read, if it has one, and answers how many cells it takes.
+    pub(crate) fn complete(&mut self, high: Option<u16>) -> u32
+        ensures row { row_as self.new ≡ completed (row_as self.old) high }
+        ensures cells { result ≡ cells_of high }
+        ensures bound { result ≤ 65536 }
+    {
+        match high {
+            None => {
+                self.cells = 1;
+                1
+            }
+            Some(h) => {
+                self.sort = Sort::Array;
+                self.cells = h as u32 + 1;
+                h as u32 + 1
+            }
         }
     }
 }

@@ -81,19 +81,21 @@ impl Operands {
     {
         match rule {
             Rule::Idle | Rule::Keeps(_, _) => {}
-            Rule::Gives(kind) => self.kinds.push(kind),
+            Rule::Gives(kind) => {
+                let _ = self.kinds.push(kind);
+            }
             Rule::Joins(operator, _) => {
                 let left = self.operand(1);
                 let _ = self.kinds.pop();
                 let _ = self.kinds.pop();
-                self.kinds.push(joined(operator, left));
+                let _ = self.kinds.push(joined(operator, left));
             }
             Rule::Takes(_, _) | Rule::Starts(_, _) => {
                 let _ = self.kinds.pop();
             }
             Rule::Picks(kind, _) | Rule::Turns(kind) => {
                 let _ = self.kinds.pop();
-                self.kinds.push(kind);
+                let _ = self.kinds.push(kind);
             }
         }
     }

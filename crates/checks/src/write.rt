@@ -21,10 +21,12 @@ fn append(out: &mut Reserved<Item, ITEMS>, emission: Emission)
 {
     match emission {
         Emission::Nothing => {}
-        Emission::One(x) => out.push(x),
+        Emission::One(x) => {
+            let _ = out.push(x);
+        }
         Emission::Two(x, y) => {
-            out.push(x);
-            out.push(y);
+            let _ = out.push(x);
+            let _ = out.push(y);
         }
     }
 }

@@ -4,6 +4,7 @@ ghost use Rattle.syntax.specs.Entries.{entries as entries_of};
 ghost use Rattle.checks.specs.Entered.{row_as};
 ghost use Rattle.checks.specs.Works.{holds, nodes_of, nothing};
 ghost use Rattle.code.specs.Compile.{Compiles};
+ghost use Rattle.emit.specs.Passes.{IsBlank};
 
 use crate::fault::CompileFault;
 use checks::entry::NameEntry;
@@ -23,7 +24,7 @@ pub struct Compiler {
 impl Compiler {
     // The only call that asks for memory.
     pub fn new(heap: Global) -> Result<Compiler, AllocError>
-        ensures { IfOk result (λ c. (holds c.workspace ≡ nothing) × (nodes_of c.workspace ≡ [])) }
+        ensures { IfOk result (λ c. (holds c.workspace ≡ nothing) × (nodes_of c.workspace ≡ []) × IsBlank c.emitter) }
     {
         Ok(Compiler {
             workspace: Workspace::new(heap)?,

@@ -142,6 +142,10 @@ behind x z =
       todo = opens x.item x.place x.after x.start z.todo;
     }
 
+-- no code, and nothing open
+abbrev pub blank : Back
+blank = record { code = []; todo = [] }
+
 -- backward
 abbrev pub back : List Placed → Back → Back
 back [] z = z

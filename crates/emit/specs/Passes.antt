@@ -1,6 +1,12 @@
--- What the passes ask.
-use Rattle.std.specs.Prelude.{◌<◌, List, [], ◌∷◌}
+-- What an emitter holds, and what the passes ask.
+use Rattle.std.specs.Prelude.{◌≡◌, ◌<◌, List, [], ◌∷◌}
+use Rattle.emit.specs.declared.emitter.Emitter.{Emitter}
 use Rattle.emit.specs.declared.place.Placed.{Placed}
+use Rattle.emit.specs.Items.{blank}
+
+-- nothing is held
+abbrev pub IsBlank : Emitter → Type 0
+IsBlank e = (e.starts ≡ []) × (e.places ≡ []) × (e.backward ≡ blank)
 
 -- no item stands so high that the place after it has no number
 abbrev pub Low : List Placed → Type 0

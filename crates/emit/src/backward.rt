@@ -1,8 +1,8 @@
 // The backward pass: the code that follows an item is known when the item's own is made.
-ghost use Rattle.std.specs.Prelude.{◌≡◌, ◌+◌, ◌<◌, ◌≤◌, [], ◌∷◌, ◌++◌, length, reverse, drop, slice_index_or};
+ghost use Rattle.std.specs.Prelude.{◌≡◌, ◌+◌, ◌<◌, ◌≤◌, [], ◌∷◌, ◌++◌, length, reverse, drop, IfOk, slice_index_or};
 ghost use Rattle.words.specs.Stacks.{below};
 ghost use Rattle.typed.specs.Instrs.{CASE};
-ghost use Rattle.emit.specs.Items.{aims, table as table_of, without, emits, behind, back, last};
+ghost use Rattle.emit.specs.Items.{aims, blank, table as table_of, without, emits, behind, back, last};
 ghost use Rattle.emit.specs.Passes.{Low};
 
 use crate::place::{Aim, CODE, ITEMS, Placed};
@@ -30,7 +30,9 @@ impl Model for Backward {
 }
 
 impl Backward {
-    pub(crate) fn new(heap: Global) -> Result<Backward, AllocError> {
+    pub(crate) fn new(heap: Global) -> Result<Backward, AllocError>
+        ensures { IfOk result (λ s. s ≡ blank) }
+    {
         Ok(Backward {
             todo: Reserved::new(heap)?,
             code: Reserved::new(heap)?,
@@ -42,7 +44,7 @@ impl Backward {
         requires { length self.old.code < 16384 }
         ensures { self.new ≡ record { code = i ∷ self.old.code; todo = self.old.todo } }
     {
-        self.code.push(i);
+        let _ = self.code.push(i);
     }
 
     // A construct more.
@@ -50,7 +52,7 @@ impl Backward {
         requires { length self.old.todo < 131072 }
         ensures { self.new ≡ record { code = self.old.code; todo = aims yes no ∷ self.old.todo } }
     {
-        self.todo.push(Aim { yes, no });
+        let _ = self.todo.push(Aim { yes, no });
     }
 
     fn leave(&mut self)
@@ -167,6 +169,6 @@ impl Backward {
         requires { length self.old.code ≤ length table.old }
         ensures { table.new ≡ self.old.code ++ drop (length self.old.code) table.old }
     {
-        self.code.hand_over(table);
+        let _ = self.code.hand_over(table);
     }
 }

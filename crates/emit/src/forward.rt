@@ -14,7 +14,9 @@ fn follow(item: Item, p: u16, loops: &mut Reserved<u16, ITEMS>)
     ensures len { length loops.new ≤ length loops.old + 1 }
 {
     match item {
-        Item::While | Item::Do | Item::For(_) => loops.push(p),
+        Item::While | Item::Do | Item::For(_) => {
+            let _ = loops.push(p);
+        }
         Item::Loop | Item::Done | Item::Next(_) => {
             let _ = loops.pop();
         }
@@ -37,7 +39,7 @@ pub(crate) fn place_all(
     let mut place = 0;
     for n in items {
         let after = place + size_of(*n) as u16;
-        out.push(Placed {
+        let _ = out.push(Placed {
             item: *n,
             place,
             after,

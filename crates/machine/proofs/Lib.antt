@@ -4,3 +4,4 @@ pub mod Runs
 pub mod Steps
 pub mod Views
 pub mod Going
+pub mod Played

@@ -2,6 +2,9 @@
 use Rattle.std.proofs.Common.{◌≡◌, ℕ, zero, suc, ◌+◌, List, Some, refl, ap, ◌∙◌, arith}
 use Rattle.words.specs.declared.instr.Instr.{Instr}
 use Rattle.machine.specs.declared.ending.Ending.{Ending}
+use Rattle.machine.specs.declared.ending.Ending.TheVariants.{Halted, Stopped, Missing, TooHigh, BadOperand, Outside}
+use Rattle.arith.specs.declared.stop.Stop.TheVariants.{Overflow, ZeroDivisor, BadIndex, BadCase}
+use Rattle.machine.specs.Endings.{numbered, number_of}
 use Rattle.machine.specs.Machine.{State, step, run}
 use Rattle.machine.specs.Laws.{Lawful}
 use Rattle.machine.proofs.Operands.{rules}
@@ -20,9 +23,21 @@ run_on P d (suc m) n s =
     let e : suc m + n ≡ suc (m + n) = omega arith in
     ap (λ (k : ℕ). run P d k s) e ∙ ap (step P d) (run_on P d m n s)
 
+numbers : (e : Ending) → numbered (number_of e) ≡ e
+numbers Halted = refl
+numbers (Stopped Overflow) = refl
+numbers (Stopped ZeroDivisor) = refl
+numbers (Stopped BadIndex) = refl
+numbers (Stopped BadCase) = refl
+numbers Missing = refl
+numbers TooHigh = refl
+numbers BadOperand = refl
+numbers Outside = refl
+
 pub lawful : Lawful
 lawful =
     record {
+      numbers = numbers;
       named = rules;
       counts = steps_step;
       ends = ends_step;

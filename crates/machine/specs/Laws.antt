@@ -5,7 +5,7 @@ use Rattle.words.specs.Rows.{operands_of}
 use Rattle.words.specs.declared.instr.Instr.{Instr}
 use Rattle.words.specs.declared.op.Op.{Op}
 use Rattle.machine.specs.declared.ending.Ending.{Ending}
-use Rattle.machine.specs.declared.ending.Ending.TheVariants.{Outside}
+use Rattle.machine.specs.Endings.{numbered, number_of}
 use Rattle.machine.specs.declared.vm.Move.{Move}
 use Rattle.machine.specs.Table.{fine}
 use Rattle.machine.specs.Machine.{State, made, pops, step, run}
@@ -42,6 +42,8 @@ Named n [] = operands_of n ≡ None
 Named n (o ∷ os) = ((a b : ℕ) → fine o a b ≡ true → Unnamed (operands_of n) a b) × Named (suc n) os
 
 pub record Lawful : Type 0 where
+  -- an ending has the number by which the definitions name it
+  pub numbers : (e : Ending) → numbered (number_of e) ≡ e
   -- the operands' rules go with the table of the operands that each instruction names
   pub named : Named 0 ops
   -- each step of a machine that has not ended counts one
@@ -53,7 +55,7 @@ pub record Lawful : Type 0 where
   -- the stack stays within the depth
   pub low : (P : List Instr) (d : ℕ) (s : State) → s.vm.height ≤ d → (step P d s).vm.height ≤ d
   -- past the code there is nothing to do
-  pub past : (P : List Instr) (d : ℕ) (s : State) → s.vm.ending ≡ None → length P ≤ s.vm.place → (step P d s).vm.ending ≡ Some Outside
+  pub past : (P : List Instr) (d : ℕ) (s : State) → s.vm.ending ≡ None → length P ≤ s.vm.place → (step P d s).vm.ending ≡ Some (numbered 9)
   -- an ended machine stays as it is, for any number of steps
   pub ended : (P : List Instr) (d n : ℕ) (s : State) (e : Ending) → s.vm.ending ≡ Some e → run P d n s ≡ s
   -- a run goes on from where it was

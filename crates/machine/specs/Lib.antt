@@ -3,4 +3,8 @@ pub mod Table
 pub mod Machine
 pub mod Stacks
 pub mod Laws
+pub mod Registers
+pub mod Faults
+pub mod Sessions
+pub mod Calls
 pub mod Lent

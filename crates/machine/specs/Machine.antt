@@ -1,8 +1,8 @@
 -- One step, and runs.
-use Rattle.std.specs.Prelude.{◌≡◌, ℕ, zero, suc, ◌+◌, ◌-◌, Bool, true, false, cond, ◌&&◌, List, length, Some, None, Ok, Err, Option, Result, nat_le, nat_lt, slice_index_or, slice_set}
+use Rattle.std.specs.Prelude.{◌≡◌, ℕ, zero, suc, ◌+◌, ◌-◌, cond, List, length, Some, None, Ok, Err, Option, Result, nat_lt, slice_index_or, slice_set}
 use Rattle.words.specs.declared.instr.Instr.{Instr}
 use Rattle.machine.specs.declared.ending.Ending.{Ending}
-use Rattle.machine.specs.declared.ending.Ending.TheVariants.{TooHigh, Outside}
+use Rattle.machine.specs.Endings.{ends}
 use Rattle.machine.specs.declared.vm.Move.{Move}
 use Rattle.machine.specs.declared.vm.Move.TheVariants.{On, Push, Write}
 use Rattle.machine.specs.declared.vm.Vm.{Vm}
@@ -25,12 +25,12 @@ at v p h w = record { place = p; height = h; steps = v.steps; writes = w; ending
 abbrev pub made : ℕ → Move → State → Result State Ending
 made d (On k q) s = Ok (state (at s.vm q (s.vm.height - k) s.vm.writes) s.stack s.cells)
 made d (Push k w) s =
-    cond (nat_lt (s.vm.height - k) d) (Ok (state (at s.vm (s.vm.place + 1) (s.vm.height - k + 1) s.vm.writes) (slice_set s.stack (s.vm.height - k) w) s.cells)) (Err TooHigh)
-made d (Write k c w q) s = cond (nat_lt c (length s.cells)) (Ok (state (at s.vm q (s.vm.height - k) (s.vm.writes + 1)) s.stack (slice_set s.cells c w))) (Err Outside)
+    cond (nat_lt (s.vm.height - k) d) (Ok (state (at s.vm (s.vm.place + 1) (s.vm.height - k + 1) s.vm.writes) (slice_set s.stack (s.vm.height - k) w) s.cells)) (ends 7)
+made d (Write k c w q) s = cond (nat_lt c (length s.cells)) (Ok (state (at s.vm q (s.vm.height - k) (s.vm.writes + 1)) s.stack (slice_set s.cells c w))) (ends 9)
 
 -- the move of the instruction at the place; past the code there is none
 abbrev pub fetched : List Instr → State → Result Move Ending
-fetched P s = cond (nat_lt s.vm.place (length P)) (moved (slice_index_or P s.vm.place record { number = 0; a = 0; b = 0 }) s.vm.place s.vm.height s.stack s.cells) (Err Outside)
+fetched P s = cond (nat_lt s.vm.place (length P)) (moved (slice_index_or P s.vm.place record { number = 0; a = 0; b = 0 }) s.vm.place s.vm.height s.stack s.cells) (ends 9)
 
 -- what the step does that is not its count: that move, or an ending
 unfoldable pub goes : List Instr → ℕ → State → Result State Ending
@@ -59,20 +59,6 @@ step P d s = stepped P d s s.vm.ending
 unfoldable pub run : List Instr → ℕ → ℕ → State → State
 run P d zero s = s
 run P d (suc n) s = step P d (run P d n s)
-
--- whether n steps can be made: the code is not too long, the stack has room for the depth and is not above it, and
--- the counts are in order
-abbrev pub able_for : ℕ → List Instr → ℕ → State → Bool
-able_for n P d s = nat_le (length P) 16383 && (nat_le d (length s.stack) && (nat_le s.vm.height d && (nat_le (s.vm.steps + n) 4000000000 && nat_le s.vm.writes s.vm.steps)))
-
--- whether one can
-abbrev pub able : List Instr → ℕ → State → Bool
-able P d s = able_for 1 P d s
-
--- a step answers the registers after it; where none can be made, nothing changes
-abbrev pub Steps : Option Vm → Bool → State → List ℕ → List ℕ → State → Type 0
-Steps None can s st σ t = (can ≡ false) × (st ≡ s.stack) × (σ ≡ s.cells)
-Steps (Some v) can s st σ t = (can ≡ true) × (state v st σ ≡ t)
 
 -- the words that a move pops
 abbrev pub pops : Move → ℕ

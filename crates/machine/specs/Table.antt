@@ -10,7 +10,8 @@ use Rattle.arith.specs.Shifts.{is_shift, kind_of, shifted}
 use Rattle.words.specs.declared.instr.Instr.{Instr}
 use Rattle.words.specs.Ops.{ops, taken_by}
 use Rattle.machine.specs.declared.ending.Ending.{Ending}
-use Rattle.machine.specs.declared.ending.Ending.TheVariants.{Halted, Stopped, Missing, BadOperand, Outside}
+use Rattle.machine.specs.declared.ending.Ending.TheVariants.{Stopped}
+use Rattle.machine.specs.Endings.{ends}
 use Rattle.machine.specs.declared.vm.Move.{Move}
 use Rattle.machine.specs.declared.vm.Move.TheVariants.{On, Push, Write}
 use Rattle.words.specs.declared.op.Op.{Op}
@@ -19,7 +20,7 @@ use Rattle.words.specs.declared.op.Op.TheVariants.{Halt, Lit, Load, Stor, Ldx, S
 -- the instruction of a number, if there is one
 abbrev pub known : Option Op → Result Op Ending
 known (Some o) = Ok o
-known None = Err BadOperand
+known None = ends 8
 
 -- by its place in the list of instructions; over 33 there is none
 unfoldable pub decoded : ℕ → Result Op Ending
@@ -80,14 +81,14 @@ wants o a = taken_by o a
 
 -- the operands are in order (or not), and n words are there
 abbrev pub held : Bool → ℕ → ℕ → Result (Unit {0}) Ending
-held f n h = cond f (cond (nat_le n h) (Ok tt) (Err Missing)) (Err BadOperand)
+held f n h = cond f (cond (nat_le n h) (Ok tt) (ends 6)) (ends 8)
 
 abbrev pub readied : Op → ℕ → ℕ → ℕ → Result (Unit {0}) Ending
 readied o a b h = held (fine o a b) (wants o a) h
 
 -- the word of a cell
 abbrev pub cell_of : List ℕ → ℕ → Result ℕ Ending
-cell_of σ c = cond (nat_lt c (length σ)) (Ok (slice_index σ c)) (Err Outside)
+cell_of σ c = cond (nat_lt c (length σ)) (Ok (slice_index σ c)) (ends 9)
 
 -- an operation on words that stops ends the run
 abbrev pub stopped : {X : Type 0} → Result X Stop → Result X Ending
@@ -102,7 +103,7 @@ push k r = then r (λ w. Ok (Push k w))
 -- `Push k w`: k words popped, then w pushed, and on to p + 1. `On k q`: k words popped, and on to q.
 -- `Write k c w q`: k words popped, w into the cell c, and on to q.
 abbrev pub act : Op → ℕ → ℕ → ℕ → ℕ → ℕ → List ℕ → Result Move Ending
-act Halt a b p x y σ = Err Halted
+act Halt a b p x y σ = ends 0
 act Lit a b p x y σ = Ok (Push 0 a)
 act Load a b p x y σ = push 0 (cell_of σ a)
 act Stor a b p x y σ = Ok (Write 1 a x (p + 1))

@@ -21,7 +21,7 @@ fn decode(number: u16) -> Result<Op, Ending>
 }
 
 #[inline(always)]
-pub fn act<S: Store>(
+pub(crate) fn act<S: Store>(
     i: &Instr,
     place: u32,
     stack: &Bounded<'_, u16>,

@@ -1,7 +1,7 @@
 // How a run ends.
 ghost use Rattle.std.specs.Prelude.{◌≡◌};
-ghost use Rattle.machine.specs.declared.ending.Ending.TheVariants.{Stopped, BadOperand, Outside};
-ghost use Rattle.machine.specs.Endings.{number_of};
+ghost use Rattle.machine.specs.declared.ending.Ending.TheVariants.{Stopped};
+ghost use Rattle.machine.specs.Endings.{number_of, numbered};
 
 use arith::relation::UnknownRelation;
 use arith::stop::Stop;
@@ -52,7 +52,7 @@ impl From<Stop> for Ending {
 }
 
 impl From<UnknownOp> for Ending {
-    ghost from_gives = { λ _ r. r ≡ BadOperand };
+    ghost from_gives = { λ _ r. r ≡ numbered 8 };
 
     fn from(_e: UnknownOp) -> Ending {
         Ending::BadOperand
@@ -60,7 +60,7 @@ impl From<UnknownOp> for Ending {
 }
 
 impl From<UnknownRelation> for Ending {
-    ghost from_gives = { λ _ r. r ≡ BadOperand };
+    ghost from_gives = { λ _ r. r ≡ numbered 8 };
 
     fn from(_e: UnknownRelation) -> Ending {
         Ending::BadOperand
@@ -68,7 +68,7 @@ impl From<UnknownRelation> for Ending {
 }
 
 impl From<StoreFault> for Ending {
-    ghost from_gives = { λ _ r. r ≡ Outside };
+    ghost from_gives = { λ _ r. r ≡ numbered 9 };
 
     fn from(_e: StoreFault) -> Ending {
         Ending::Outside

@@ -1,11 +1,15 @@
-// The card machine: one step of its instructions over an operand stack and a store of words.
+// The card machine, by its sessions: start, resume, look, report, and the single run. One step of its instructions works over an
+// operand stack and a store of words.
 #![tactic(auto)]
 
 mod act;
+pub mod call;
 pub mod ending;
+pub mod fault;
 pub mod laws;
-pub mod machine;
-pub mod run;
-pub mod step;
+pub mod lent;
+mod machine;
+pub mod session;
+pub mod single;
 mod view;
 pub mod vm;

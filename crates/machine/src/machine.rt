@@ -1,4 +1,4 @@
-// A machine that can make steps.
+// A machine that can make steps. No other crate sees it: a session makes one where what it was lent will do.
 ghost use Rattle.std.specs.Prelude.{◌<◌, ◌≤◌, length};
 ghost use Rattle.words.specs.Lists.{room};
 
@@ -9,11 +9,11 @@ use words::list::Bounded;
 mod steps;
 
 // The steps of a machine at most.
-pub const LIMIT: u64 = 4000000000;
+pub(crate) const LIMIT: u64 = 4000000000;
 
 // Its code, the depth of its stack, the words stacked, its store, and the other registers. The height is the length of the list.
 #[derive(Drop)]
-pub struct Machine<'a, 'b, 'c, 'd, S> {
+pub(crate) struct Machine<'a, 'b, 'c, 'd, S> {
     pub code: &'a [Instr],
     pub depth: u16,
     pub stack: &'b mut Bounded<'c, u16>,

@@ -18,7 +18,7 @@ use words::store::Store;
 
 // The operands of an instruction, its place, the stacked words, and the store.
 #[derive(Drop)]
-pub struct View<'a, 'b, 'c, S> {
+pub(crate) struct View<'a, 'b, 'c, S> {
     pub a: u16,
     pub b: u16,
     pub place: u32,
@@ -98,8 +98,12 @@ impl<S: Store> View<'_, '_, '_, S> {
     // The move that it makes, or the ending. No closures: with `?` an operation's call is its row, and a table of functions
     // would be no plainer.
     #[inline(always)]
-    pub fn row(&self, op: Op) -> Result<Move, Ending>
-        ensures { result ≡ row_of op self.now.a self.now.b self.now.place self.now.stack.now.len (room self.now.stack.now) (S.Store.words self.now.store.now) }
+    pub(crate) fn row(&self, op: Op) -> Result<Move, Ending>
+        ensures {
+            let v = self.now in
+            result
+                ≡ row_of op v.a v.b v.place v.stack.now.len (room v.stack.now) (S.Store.words v.store.now)
+        }
     {
         let a = self.a;
         let b = self.b;

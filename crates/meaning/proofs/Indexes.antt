@@ -4,6 +4,7 @@ use lib.Signed.{le_z, lt_z}
 use Rattle.std.proofs.lemmas.Bool.{ltb-true, and_parts, false≢true}
 use Rattle.arith.specs.declared.stop.Stop.{Stop}
 use Rattle.arith.specs.declared.stop.Stop.TheVariants.{Overflow}
+use Rattle.arith.specs.Stops.{stop}
 use Rattle.arith.specs.Integers.{int, within, below, subscript, chosen}
 use Rattle.meaning.specs.Effects.{Store, Write, Effect, effect, cut, prim, says}
 
@@ -19,20 +20,20 @@ abbrev word : Result ℕ Stop → ℕ
 word (Ok w) = w
 word (Err e) = 0
 
-answers : (e : Stop) (x n j : ℕ) → below e x n ≡ Ok j → j < n
+answers : (e x n j : ℕ) → below e x n ≡ Ok j → j < n
 answers e x n j = of (within x n) refl
   where
-    of : (b : Bool) → within x n ≡ b → cond b (Ok x) (Err e) ≡ Ok j → j < n
+    of : (b : Bool) → within x n ≡ b → cond b (Ok x) (stop e) ≡ Ok j → j < n
     of true h q = subst (λ (y : ℕ). y < n) (ap word q) (tested x n h)
     of false h q = absurd (false≢true (ap is_ok q))
 
 pub subscript_below : (x n j : ℕ) → subscript x n ≡ Ok j → j < n
 unfolding subscript
-subscript_below x n j q = answers _ x n j q
+subscript_below x n j q = answers 3 x n j q
 
 pub chosen_below : (x n j : ℕ) → chosen x n ≡ Ok j → j < n
 unfolding chosen
-chosen_below x n j q = answers _ x n j q
+chosen_below x n j q = answers 4 x n j q
 
 abbrev outcome : {A : Type 0} → Effect A → Result A Stop
 outcome (effect ws o) = o

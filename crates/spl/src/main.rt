@@ -1,27 +1,16 @@
 // spl: the toolchain's program. What matters is in the libraries; here files and lines become calls, and answers text.
 #![tactic(auto)]
 
-mod annotating;
-mod batch;
-mod compiling;
-mod cutting;
-mod fields;
-mod instruction;
-mod listing;
-mod made;
-mod map;
-mod mark;
-mod origins;
-mod outline;
-mod routine;
-mod running;
-mod sessions;
-mod settings;
-mod source;
-mod tracing;
-mod verify;
-
 use anyhow::anyhow;
+use listing::compile::compile;
+use listing::list::list;
+use listing::map::map;
+use listing::outline::parse;
+use listing::tokens::tokens;
+use listing::verify::verify;
+use protocol::batch::{batch, check};
+use runner::run::run;
+use runner::trace::trace;
 use std::alloc::Global;
 use std::env;
 
@@ -51,24 +40,22 @@ fn usage(rt: &HostRuntime) -> anyhow::Result<()> {
 fn command(rt: &HostRuntime, words: &[String]) -> anyhow::Result<()> {
     match words {
         [] => usage(rt),
-        [name] if name.as_str() == "batch" => batch::batch(rt),
-        [name, path] if name.as_str() == "tokens" => cutting::tokens(rt, path.as_str()),
-        [name, path] if name.as_str() == "parse" => outline::parse(rt, path.as_str()),
-        [name, path] if name.as_str() == "map" => map::map(rt, path.as_str()),
+        [name] if name.as_str() == "batch" => batch(rt),
+        [name, path] if name.as_str() == "tokens" => tokens(rt, path.as_str()),
+        [name, path] if name.as_str() == "parse" => parse(rt, path.as_str()),
+        [name, path] if name.as_str() == "map" => map(rt, path.as_str()),
         [name, path, target] if name.as_str() == "compile" => {
-            compiling::compile(rt, path.as_str(), target.as_str())
+            compile(rt, path.as_str(), target.as_str())
         }
         [name, path, target] if name.as_str() == "verify" => {
-            verify::verify(rt, path.as_str(), target.as_str())
+            verify(rt, path.as_str(), target.as_str())
         }
-        [name, path, options @ ..] if name.as_str() == "run" => {
-            running::run(rt, path.as_str(), options)
-        }
+        [name, path, options @ ..] if name.as_str() == "run" => { run(rt, path.as_str(), options) }
         [name, path, options @ ..] if name.as_str() == "trace" => {
-            tracing::trace(rt, path.as_str(), options)
+            trace(rt, path.as_str(), options)
         }
-        [name, path] if name.as_str() == "check" => batch::check(rt, path.as_str()),
-        [name, path] if name.as_str() == "list" => listing::list(rt, path.as_str()),
+        [name, path] if name.as_str() == "check" => check(rt, path.as_str()),
+        [name, path] if name.as_str() == "list" => list(rt, path.as_str()),
         _ => {
             usage(rt)?;
             Err(anyhow!("there is no such command, or its arguments are too few or too many"))

@@ -1,9 +1,11 @@
 -- One token cut from a text. Assumes nothing.
-use Rattle.std.proofs.Common.{◌≡◌, ℕ, zero, suc, ◌+◌, ◌-◌, ◌<◌, ◌≤◌, true, false, eqb, leb, List, [], ◌∷◌, length, take, drop, IfOk, Some, None, Ok, Err, Option, Result, sym, refl, ap, ◌∙◌, subst, ⊎_elim, arith, Bor}
+use Rattle.std.proofs.Common.{◌≡◌, ℕ, zero, suc, ◌+◌, ◌-◌, ◌<◌, ◌≤◌, true, false, eqb, leb, List, [], ◌∷◌, length, take, drop, Some, None, Ok, Err, Option, Result, sym, refl, ap, ◌∙◌, subst, ⊎_elim, arith, Bor}
 use Rattle.std.proofs.lemmas.List.{take_rest, length-drop, length-take, length-append, drop_all}
 use Rattle.std.proofs.lemmas.Bool.{ne_eqb, eqb-true, eqb-false, leb-true, cases_Bool, cond_both}
 use Rattle.std.proofs.lemmas.List.Sums.{prefix_len-le-length}
 use Rattle.std.specs.List.{prefix_len}
+use Rattle.std.specs.Option.{option_map}
+use Rattle.words.specs.declared.refusal.Refusal.{Refusal}
 use Rattle.words.specs.Refusals.{refuse}
 use Rattle.text.specs.declared.token.Token.{Token}
 use Rattle.text.specs.declared.fault.TextFault.{TextFault}
@@ -14,7 +16,7 @@ use Rattle.text.proofs.FirstBytes.{symbol_long}
 use Rattle.text.proofs.Signs.{Stands, sign_stands}
 use Rattle.text.specs.Lexemes.{Start, Letter, Decimal, Percent, Comment, Other, capital, digit, opens, symbol_text, start_of, sign_of, word_byte, digit_of, base_of, most_of, value_of, within, gap_of}
 use Rattle.text.specs.Faults.{refusal_of}
-use Rattle.text.specs.Cut.{Cut, Next, Short, fronted, onward, width_of, after, first_of, piece, Piece, word, lexed, word_of, symbol_of, Front, good, nexted, next_of, Steps, number_of, valued, past, lexeme, cut, left, fault}
+use Rattle.text.specs.Cut.{Cut, Next, Short, rested, symbol, onward, width_of, after, first_of, piece, Piece, word, lexed, word_of, symbol_of, Front, good, next_of, Steps, number_of, valued, past, lexeme, cut, left, fault}
 
 -- to skip is to drop
 past_skips : (k : ℕ) (bs : List ℕ) → past k bs ≡ past 0 (drop k bs)
@@ -49,9 +51,25 @@ module _ (p lead n : ℕ) (kind : Kind) (xs : List ℕ) (ne : n ≡ prefix_len (
       valued p (lead + n) kind xs o ≡ number_of p lead (prefix_len (digit_of kind) (drop lead xs)) kind xs
   number_valued o z e = rw (run, ne_eqb n 0 z) (ap (valued p (lead + n) kind xs) (e ∙ rw (take_rest xs lead)))
 
-pub lexeme_by : (p : ℕ) (xs : List ℕ) (st : Start) → st ≡ start_of xs → lexed p xs st ≡ lexeme p xs
-unfolding lexeme
-lexeme_by p xs st e = ap (lexed p xs) e
+-- a token and the text after it
+abbrev pub got : Piece → List ℕ → Next
+got t rest = Ok (Some (t, rest))
+
+-- a symbol, as the code finds it
+module _ (p : ℕ) (xs : List ℕ) where
+  pub symbol_found : (s : Symbol) (rest : List ℕ) → Some (s, rest) ≡ option_map (rested xs) (sign_of xs) → Ok (Some (symbol s p, rest)) ≡ after xs (symbol_of p (sign_of xs))
+  symbol_found s rest e = by (sign_of xs) e
+    where
+      by : (o : Option (Symbol × ℕ)) → Some (s, rest) ≡ option_map (rested xs) o → Ok (Some (symbol s p, rest)) ≡ after xs (symbol_of p o)
+      by None q = cc
+      by (Some r) q = let j : (s, rest) ≡ rested xs r = cc in ap (λ (v : Symbol × List ℕ). got (symbol v.0 p) v.1) j
+
+  pub symbol_none : None ≡ option_map (rested xs) (sign_of xs) → refuse 2 p ≡ after xs (symbol_of p (sign_of xs))
+  symbol_none e = by (sign_of xs) e
+    where
+      by : (o : Option (Symbol × ℕ)) → None ≡ option_map (rested xs) o → refuse 2 p ≡ after xs (symbol_of p o)
+      by None q = refl
+      by (Some s) q = cc
 
 -- a token that is cut has a byte, and lies in the text
 abbrev pub Wide : ℕ → Front → Type 0
@@ -109,11 +127,6 @@ pub lexeme_wide : (p : ℕ) (xs : List ℕ) → Wide (length xs) (lexeme p xs)
 unfolding lexeme
 lexeme_wide p xs = lexed_wide p xs (start_of xs) refl
 
--- the same of the code's answer
-pub made_wide : (p : ℕ) (xs : List ℕ) (r : Result (Token × ℕ) TextFault) → fronted r ≡ lexeme p xs → IfOk r (λ q. q.1 ≤ length xs)
-made_wide p xs (Ok q) e = (subst (Wide (length xs)) (sym e) (lexeme_wide p xs)).1
-made_wide p xs (Err f) e = tt
-
 -- a word that is cut is short
 abbrev ShortFront : Front → Type 0
 ShortFront (Ok f) = Short f.0
@@ -142,9 +155,25 @@ lexed_short p xs Percent = short_number p 1 (prefix_len (digit_of Logical) (drop
 lexed_short p xs Comment = tt
 lexed_short p xs Other = short_symbol p (sign_of xs)
 
-pub short_token : (p : ℕ) (xs : List ℕ) (t : Piece) (n : ℕ) → good t n ≡ lexeme p xs → Short t
+pub same_front : {p q : ℕ} {xs ys : List ℕ} → xs ≡ ys → p ≡ q → after xs (lexeme p xs) ≡ after ys (lexeme q ys)
+same_front e f = rw (e, f)
+
+-- the token that was cut takes so many bytes
+module _ (xs : List ℕ) where
+  abbrev Taken : Piece → List ℕ → Front → Type 0
+  Taken t rest f = (n : ℕ) × ((f ≡ good t n) × (rest ≡ drop n xs))
+
+  taken : (t : Piece) (rest : List ℕ) (f : Front) → got t rest ≡ after xs f → Taken t rest f
+  taken t rest (Ok g) e = let j : (t, rest) ≡ (g.0, drop g.1 xs) = cc in (g.1, (ap (λ (v : Piece × List ℕ). good v.0 g.1) (sym j), ap (λ (v : Piece × List ℕ). v.1) j))
+  taken t rest (Err r) e = cc
+
+  refused : (e : Refusal) (f : Front) → Err e ≡ after xs f → f ≡ Err e
+  refused e (Ok g) q = cc
+  refused e (Err r) q = cc
+
+pub short_token : (p : ℕ) (xs : List ℕ) (t : Piece) (rest : List ℕ) → got t rest ≡ after xs (lexeme p xs) → Short t
 unfolding lexeme
-short_token p xs t n e = subst ShortFront (sym e) (lexed_short p xs (start_of xs))
+short_token p xs t rest e = subst ShortFront (taken xs t rest (lexeme p xs) e).1.0 (lexed_short p xs (start_of xs))
 
 -- what stands first once blanks and comments are passed over
 past_stops : (k : ℕ) (bs : List ℕ) → gap_of (past k bs) ≡ 0
@@ -206,32 +235,28 @@ unfolding left fault cut
 steps_none end bs [] e h = let c : cut end 0 bs ≡ cut end 0 [] = cut_past end 0 bs ∙ ap (cut end 0) (sym e) in (ap (λ (v : Cut). v.tokens) c, ap (λ (v : Cut). v.fault) c)
 steps_none end bs (x ∷ xs) e h = absurd (omega arith)
 
-abbrev got : Piece → List ℕ → Next
-got t rest = Ok (Some (t, rest))
-
 module _ (end : ℕ) (bs xs : List ℕ) (e : xs ≡ past 0 bs) (h : length xs ≡ 0 → ⊥) where
   whole : (f : Front) → f ≡ lexeme (end - length xs) xs → cut end 0 bs ≡ onward f (cut end 0 (drop (width_of f) xs))
   whole f l =
       cut_past end 0 bs ∙ ap (cut end 0) (sym e)
       ∙ cut_front end xs f (ap gap_of e ∙ past_stops 0 bs) h (sym l) (subst (Wide (length xs)) (sym l) (lexeme_wide (end - length xs) xs))
 
-  pub steps_refused : (f : TextFault) → Err (refusal_of f) ≡ lexeme (end - length xs) xs → Steps end bs (Err f)
+  pub steps_refused : (f : TextFault) → Err (refusal_of f) ≡ after xs (lexeme (end - length xs) xs) → Steps end bs (Err f)
   unfolding left fault
   steps_refused f l =
-      let c = whole (Err (refusal_of f)) l in
+      let c = whole (Err (refusal_of f)) (sym (refused xs (refusal_of f) (lexeme (end - length xs) xs) l)) in
       (ap (λ (v : Cut). v.tokens) c, ap (λ (v : Cut). v.fault) c)
 
-  pub steps_token : (t : Token) (n : ℕ) (rest : List ℕ) → good (piece t) n ≡ lexeme (end - length xs) xs → rest ≡ drop n xs →
+  pub steps_token : (t : Token) (rest : List ℕ) → got (piece t) rest ≡ after xs (lexeme (end - length xs) xs) →
       (left end bs ≡ piece t ∷ left end rest) × (fault end bs ≡ fault end rest) × (length rest < length bs)
   unfolding left fault
-  steps_token t n rest l r =
-      let c = whole (good (piece t) n) l in
-      let w : Wide (length xs) (good (piece t) n) = subst (Wide (length xs)) (sym l) (lexeme_wide (end - length xs) xs) in
+  steps_token t rest l =
+      let k = taken xs (piece t) rest (lexeme (end - length xs) xs) l in
+      let n = k.0 in
+      let c = whole (good (piece t) n) (sym k.1.0) in
+      let w : Wide (length xs) (good (piece t) n) = subst (Wide (length xs)) k.1.0 (lexeme_wide (end - length xs) xs) in
       let s : length xs ≤ length bs = rw e (past_shorter 0 bs) in
-      rw r (ap (λ (v : Cut). v.tokens) c, ap (λ (v : Cut). v.fault) c, omega (arith, length-drop n xs, w.0, w.1))
+      rw (k.1.1) (ap (λ (v : Cut). v.tokens) c, ap (λ (v : Cut). v.fault) c, omega (arith, length-drop n xs, w.0, w.1))
 
-  pub next_refused : (f : TextFault) → Err (refusal_of f) ≡ lexeme (end - length xs) xs → nexted (Err f) ≡ next_of end bs
-  next_refused f l = sym (first_is end bs xs e h ∙ ap (after xs) (sym l))
-
-  pub next_token : (t : Token) (n : ℕ) (rest : List ℕ) → good (piece t) n ≡ lexeme (end - length xs) xs → rest ≡ drop n xs → got (piece t) rest ≡ next_of end bs
-  next_token t n rest l r = rw r (sym (first_is end bs xs e h ∙ ap (after xs) (sym l)))
+  pub next_is : (r : Next) → r ≡ after xs (lexeme (end - length xs) xs) → r ≡ next_of end bs
+  next_is r l = l ∙ sym (first_is end bs xs e h)

@@ -4,11 +4,11 @@ use Rattle.std.proofs.lemmas.Slice.Eq.{bytes_eq-Decides}
 use Rattle.std.proofs.lemmas.Bool.{cases_Bool}
 use Rattle.std.specs.Str.{bytes_eq}
 use Rattle.text.specs.declared.reserved.Reserved.{Reserved}
-use Rattle.text.specs.Names.{First}
+use Rattle.text.specs.Names.{First, name_of}
 use Rattle.text.specs.Reserved.{Word, entry_of, lookup, reserved_words, keyword_of}
 
 abbrev pub spelled : Reserved → List ℕ
-spelled e = e.name.now
+spelled e = name_of e.name
 
 same : (xs ys : List ℕ) → xs ≡ ys → bytes_eq xs ys ≡ true
 same xs ys e = (bytes_eq-Decides xs ys).1 e

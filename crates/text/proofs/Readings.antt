@@ -1,7 +1,7 @@
 -- The cut of a text is its reading. Assumes nothing.
-use Rattle.std.proofs.Common.{◌≡◌, ℕ, zero, suc, ◌+◌, ◌-◌, ◌<◌, ◌≤◌, eqb, List, [], ◌∷◌, ◌++◌, length, take, drop, Some, None, Ok, Err, Option, sym, refl, ap, ◌∙◌, subst, arith}
+use Rattle.std.proofs.Common.{◌≡◌, ℕ, zero, suc, ◌+◌, ◌-◌, ◌<◌, ◌≤◌, eqb, List, [], ◌∷◌, ◌++◌, length, take, drop, Some, None, Ok, Err, Option, sym, refl, ap, ◌∙◌, subst, ⊎_elim, arith}
 use Rattle.std.proofs.lemmas.List.{append_assoc, length-append, length-drop, length-take-le, take-append-drop}
-use Rattle.std.proofs.lemmas.Bool.{cond_both, eqb-true, eqb-false, lt-ltb, le-ltb}
+use Rattle.std.proofs.lemmas.Bool.{cond_both, eqb-true, eqb-false, lt-ltb, le-ltb, cases_lt}
 use Rattle.std.specs.List.{flat_map}
 use Rattle.words.specs.declared.refusal.Refusal.{Refusal}
 use Rattle.words.specs.Refusals.{refuse}
@@ -90,6 +90,10 @@ ended source c r = by c.fault r.ending
 texted_long : (source : List ℕ) → 32768 < length source → texted source ≡ refuse 1 32768
 unfolding texted
 texted_long source h = rw (lt-ltb 32768 (length source) h)
+
+-- a source that has tokens is no longer than a source may be
+pub reads_short : (source : List ℕ) (ts : List Piece) → texted source ≡ Ok ts → length source ≤ 32768
+reads_short source ts e = ⊎_elim (λ l. let r = texted_long source l in cc) (λ l. l) (cases_lt 32768 (length source))
 
 pub text_reads : (source : List ℕ) → length source ≤ 32768 → Reading source (texted source)
 unfolding texted left fault

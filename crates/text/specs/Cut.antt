@@ -35,11 +35,6 @@ Short (symbol s p) = Unit {0}
 abbrev pub Front : Type 0
 Front = Result (Piece × ℕ) Refusal
 
--- an answer of the code, told without its loan and by its refusal's number
-abbrev pub fronted : Result (Token × ℕ) TextFault → Front
-fronted (Ok r) = Ok (piece r.0, r.1)
-fronted (Err e) = Err (refusal_of e)
-
 abbrev pub good : Piece → ℕ → Front
 good t n = Ok (t, n)
 
@@ -55,6 +50,13 @@ valued p width kind xs (Some v) = good (number (take width xs) kind v p) width
 abbrev pub number_of : (place lead n : ℕ) → Kind → List ℕ → Front
 number_of p lead n kind xs =
     cond (n == 0) (refuse 3 p) (valued p (lead + n) kind xs (within (most_of kind) (value_of (base_of kind) 0 (take n (drop lead xs)))))
+
+-- a symbol, and the text after it
+abbrev pub rested : List ℕ → Symbol × ℕ → Symbol × List ℕ
+rested xs s = (s.0, drop s.1 xs)
+
+abbrev pub signed : Symbol × Bor (List ℕ) → Symbol × List ℕ
+signed s = (s.0, s.1.now)
 
 abbrev pub symbol_of : (place : ℕ) → Option (Symbol × ℕ) → Front
 symbol_of p None = refuse 2 p
@@ -94,6 +96,11 @@ next_of end bs = first_of end (past 0 bs)
 
 abbrev pub loosened : Token × Bor (List ℕ) → Piece × List ℕ
 loosened p = (piece p.0, p.1.now)
+
+-- answers of the code, told without their loans and by the refusal's number
+abbrev pub fronted : Result (Token × Bor (List ℕ)) TextFault → Next
+fronted (Ok p) = Ok (Some (loosened p))
+fronted (Err e) = Err (refusal_of e)
 
 abbrev pub nexted : Result (Option (Token × Bor (List ℕ))) TextFault → Next
 nexted (Ok o) = Ok (option_map loosened o)

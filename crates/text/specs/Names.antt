@@ -1,10 +1,10 @@
 -- Names, and the first of a list of names that is the one sought.
-use Rattle.std.specs.Prelude.{◌≡◌, ℕ, ◌<◌, min, cond, List, [], length, take, Some, None, Option, ◌≢◌, nat_lt, slice_index_or}
+use Rattle.std.specs.Prelude.{◌≡◌, ℕ, ◌<◌, cond, List, [], length, take, Some, None, Option, ◌≢◌, nat_lt, slice_index_or}
 use Rattle.text.specs.declared.name.Name.{Name}
 
 -- the bytes of a name: at most 15
 abbrev pub name_of : Name → List ℕ
-name_of n = take (min n.len 15) n.bytes
+name_of n = take n.len n.bytes
 
 -- bytes that make a name: at most 15
 abbrev pub short_name : List ℕ → Option (List ℕ)

@@ -1,6 +1,7 @@
 -- The reserved words.
 use Rattle.std.specs.Prelude.{ℕ, cond, List, [], ◌∷◌, Some, None, codes, Option}
 use Rattle.std.specs.Str.{bytes_eq}
+use Rattle.text.specs.Names.{name_of}
 use Rattle.text.specs.declared.reserved.Reserved.{Reserved}
 use Rattle.text.specs.declared.token.Keyword.{Keyword}
 use Rattle.text.specs.declared.token.Keyword.TheVariants.{Begin, End, Integer, Logical, Array, If, Then, Else, Case, Of, While, Do, Until, For, Step, Or, And, Mod, Lnot, Land, Xor, Lor, Lsl, Lsr, Asr, Csl, Csr, True, False, Comment}
@@ -45,7 +46,7 @@ reserved_words =
 
 -- an entry of the table
 abbrev pub entry_of : Reserved → Word
-entry_of e = record { text = e.name.now; keyword = e.keyword }
+entry_of e = record { text = name_of e.name; keyword = e.keyword }
 
 -- the keyword of the first entry that is so spelled
 abbrev pub lookup : List Word → List ℕ → Option Keyword

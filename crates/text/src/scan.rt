@@ -1,9 +1,9 @@
 // The next token of a text. Its words and numbers are parts of the text.
-ghost use Rattle.std.specs.Prelude.{◌≡◌, ◌<◌, ◌≤◌, [], ◌∷◌, length, drop, unwrap_or, IfSome, IfOk, MatchOption};
+ghost use Rattle.std.specs.Prelude.{◌≡◌, ◌<◌, ◌≤◌, [], ◌∷◌, ◌-◌, length, drop, unwrap_or, IfSome, IfOk, MatchOption};
 ghost use Rattle.std.specs.List.{prefix_len};
 ghost use Rattle.text.specs.Lexemes.{word_byte, value_of, base_of, most_of, digit_of, gap_of, sign_of};
 ghost use Rattle.std.specs.Option.{option_map};
-ghost use Rattle.text.specs.Cut.{fronted, word_of, number_of, symbol_of, past, next_of, nexted, found, loosened, piece, left, Steps, Short};
+ghost use Rattle.text.specs.Cut.{fronted, signed, rested, after, word_of, number_of, symbol_of, past, next_of, nexted, found, loosened, piece, left, Steps, Short};
 ghost use Rattle.text.specs.Cut.{lexeme as lexeme_of};
 ghost use Rattle.text.specs.Lexemes.{within as within_of, closing as closing_of};
 
@@ -57,29 +57,29 @@ fn closing(s: &[u8]) -> Option<usize>
         .map(|i| i + 2)
 }
 
-// The symbol at the front, and how many bytes it takes: those of two bytes are tried first.
-fn sign(s: &[u8]) -> Option<(Symbol, usize)>
-    ensures { result ≡ sign_of s.now }
+// The symbol at the front, and the text after it: those of two bytes are tried first.
+fn sign(s: &[u8]) -> Option<(Symbol, &[u8])>
+    ensures { option_map signed result ≡ option_map (rested s.now) (sign_of s.now) }
 {
     match s {
-        [b':', b'=', ..] => Some((Symbol::Becomes, 2)),
-        [b'<', b'>', ..] => Some((Symbol::Unequal, 2)),
-        [b'<', b'=', ..] => Some((Symbol::AtMost, 2)),
-        [b'>', b'=', ..] => Some((Symbol::AtLeast, 2)),
-        [b';', ..] => Some((Symbol::Semicolon, 1)),
-        [b',', ..] => Some((Symbol::Comma, 1)),
-        [b'.', ..] => Some((Symbol::Dot, 1)),
-        [b'(', ..] => Some((Symbol::Open, 1)),
-        [b')', ..] => Some((Symbol::Close, 1)),
-        [b':', ..] => Some((Symbol::Colon, 1)),
-        [b'=', ..] => Some((Symbol::Equal, 1)),
-        [b'<', ..] => Some((Symbol::Less, 1)),
-        [b'>', ..] => Some((Symbol::Greater, 1)),
-        [b'+', ..] => Some((Symbol::Plus, 1)),
-        [b'-', ..] => Some((Symbol::Minus, 1)),
-        [b'*', ..] => Some((Symbol::Times, 1)),
-        [b'/', ..] => Some((Symbol::Divide, 1)),
-        [b'&', ..] => Some((Symbol::Ampersand, 1)),
+        [b':', b'=', rest @ ..] => Some((Symbol::Becomes, rest)),
+        [b'<', b'>', rest @ ..] => Some((Symbol::Unequal, rest)),
+        [b'<', b'=', rest @ ..] => Some((Symbol::AtMost, rest)),
+        [b'>', b'=', rest @ ..] => Some((Symbol::AtLeast, rest)),
+        [b';', rest @ ..] => Some((Symbol::Semicolon, rest)),
+        [b',', rest @ ..] => Some((Symbol::Comma, rest)),
+        [b'.', rest @ ..] => Some((Symbol::Dot, rest)),
+        [b'(', rest @ ..] => Some((Symbol::Open, rest)),
+        [b')', rest @ ..] => Some((Symbol::Close, rest)),
+        [b':', rest @ ..] => Some((Symbol::Colon, rest)),
+        [b'=', rest @ ..] => Some((Symbol::Equal, rest)),
+        [b'<', rest @ ..] => Some((Symbol::Less, rest)),
+        [b'>', rest @ ..] => Some((Symbol::Greater, rest)),
+        [b'+', rest @ ..] => Some((Symbol::Plus, rest)),
+        [b'-', rest @ ..] => Some((Symbol::Minus, rest)),
+        [b'*', rest @ ..] => Some((Symbol::Times, rest)),
+        [b'/', rest @ ..] => Some((Symbol::Divide, rest)),
+        [b'&', rest @ ..] => Some((Symbol::Ampersand, rest)),
         _ => None,
     }
 }
@@ -117,23 +117,35 @@ struct Rest<'a> {
 }
 
 impl<'a> Rest<'a> {
+    // The text stops at the place `end`.
+    fn new(bytes: &'a [u8], end: usize) -> Rest<'a>
+        ensures bytes { result.bytes.now ≡ bytes.now }
+        ensures place { result.place ≡ end - length bytes.now }
+    {
+        Rest {
+            bytes,
+            place: end.saturating_sub(bytes.len()),
+        }
+    }
+
     // The word at the front: a capital letter stands there.
     #[tactic(auto, using(std::proofs::lemmas::Bool::Decides::nat_tests))]
-    fn word(&self) -> Result<(Token<'a>, usize), TextFault>
-        ensures { fronted result ≡ word_of self.now.place (prefix_len word_byte self.now.bytes.now) self.now.bytes.now }
+    fn word(&self) -> Result<(Token<'a>, &'a [u8]), TextFault>
+        ensures { fronted result ≡ after self.now.bytes.now (word_of self.now.place (prefix_len word_byte self.now.bytes.now) self.now.bytes.now) }
     {
         let n = word_len(self.bytes);
         if n > 15 {
             return Err(TextFault::BadToken(self.place));
         }
-        Ok((Token::Word(&self.bytes[..n], self.place), n))
+        let (word, rest) = self.bytes.split_at(n);
+        Ok((Token::Word(word, self.place), rest))
     }
 
     // The number at the front, whose digits come after `lead` bytes.
     #[tactic(auto, using(crate::proofs::Cutting::number_valued))]
-    fn number(&self, kind: Kind, lead: usize) -> Result<(Token<'a>, usize), TextFault>
+    fn number(&self, kind: Kind, lead: usize) -> Result<(Token<'a>, &'a [u8]), TextFault>
         requires { lead ≤ length self.now.bytes.now }
-        ensures { fronted result ≡ number_of self.now.place lead (prefix_len (digit_of kind) (drop lead self.now.bytes.now)) kind self.now.bytes.now }
+        ensures { fronted result ≡ after self.now.bytes.now (number_of self.now.place lead (prefix_len (digit_of kind) (drop lead self.now.bytes.now)) kind self.now.bytes.now) }
     {
         let digits = &self.bytes[lead..];
         let n = digits_len(digits, kind);
@@ -141,24 +153,22 @@ impl<'a> Rest<'a> {
             return Err(TextFault::BadToken(self.place));
         }
         let v = value(&digits[..n], kind).ok_or(TextFault::BadToken(self.place))?;
-        Ok((
-            Token::Number(&self.bytes[..lead + n], kind, v, self.place),
-            lead + n,
-        ))
+        let (number, rest) = self.bytes.split_at(lead + n);
+        Ok((Token::Number(number, kind, v, self.place), rest))
     }
 
-    fn symbol(&self) -> Result<(Token<'a>, usize), TextFault>
-        ensures { fronted result ≡ symbol_of self.now.place (sign_of self.now.bytes.now) }
+    #[tactic(auto, using(crate::proofs::Cutting::symbol_none))]
+    fn symbol(&self) -> Result<(Token<'a>, &'a [u8]), TextFault>
+        ensures { fronted result ≡ after self.now.bytes.now (symbol_of self.now.place (sign_of self.now.bytes.now)) }
     {
-        let (found, n) = sign(self.bytes).ok_or(TextFault::NoToken(self.place))?;
-        Ok((Token::Symbol(found, self.place), n))
+        let (found, rest) = sign(self.bytes).ok_or(TextFault::NoToken(self.place))?;
+        Ok((Token::Symbol(found, self.place), rest))
     }
 
-    // The token at the front, and how many bytes it takes.
+    // The token at the front, and the text after it.
     #[tactic(auto, unfolding(crate::specs::Cut::lexeme))]
-    fn token(&self) -> Result<(Token<'a>, usize), TextFault>
-        ensures value { fronted result ≡ lexeme_of self.now.place self.now.bytes.now }
-        ensures bound { IfOk result (λ p. p.1 ≤ length self.now.bytes.now) }
+    fn token(&self) -> Result<(Token<'a>, &'a [u8]), TextFault>
+        ensures { fronted result ≡ after self.now.bytes.now (lexeme_of self.now.place self.now.bytes.now) }
     {
         match self.bytes {
             [b'A'..=b'Z', ..] => self.word(),
@@ -182,9 +192,8 @@ pub fn next<'a>(text: &'a [u8], end: usize) -> Result<Option<(Token<'a>, &'a [u8
     if bytes.is_empty() {
         return Ok(None);
     }
-    let place = end.saturating_sub(bytes.len());
-    let (token, n) = Rest { bytes, place }.token()?;
-    Ok(Some((token, &bytes[n..])))
+    let found = Rest::new(bytes, end).token()?;
+    Ok(Some(found))
 }
 
 // The same for a text whose refusals were found before: none at its end, and none at a refusal.

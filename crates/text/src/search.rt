@@ -1,5 +1,6 @@
 // One search by name, over any table whose entries have one.
 ghost use Rattle.std.specs.Prelude.{◌≡◌, ℕ, ◌<◌, List, map, length, IfSome};
+ghost use Rattle.std.specs.Str.{bytes_eq};
 ghost use Rattle.text.specs.Names.{First};
 
 pub trait Named {
@@ -9,10 +10,16 @@ pub trait Named {
         ensures { result.now ≡ spelled self.now };
 }
 
+fn is_named<T: Named>(entry: &T, name: &[u8]) -> bool
+    ensures { result ≡ bytes_eq (T.Named.spelled entry.now) name.now }
+{
+    entry.name() == name
+}
+
 // The place of the first entry with this name.
 pub fn find<T: Named>(table: &[T], name: &[u8]) -> Option<usize>
     ensures first { First (map T.Named.spelled table.now) name.now result }
     ensures bound { IfSome result (λ i. i < length table.now) }
 {
-    table.iter().position(|entry| entry.name() == name)
+    table.iter().position(|entry| is_named(entry, name))
 }

@@ -1,14 +1,15 @@
 // A whole source: its first refusal, or all its tokens.
-ghost use Rattle.std.specs.Prelude.{◌≡◌};
-ghost use Rattle.text.specs.declared.whole.TokensFault.TheVariants.{Text, Memory};
+ghost use Rattle.std.specs.Prelude.{◌≡◌, List, [], IfOk};
+ghost use Rattle.text.specs.declared.token.Token.{Token};
 ghost use Rattle.text.specs.Whole.{Checked, Listed};
 ghost use Rattle.text.specs.Theorems.{TextStands};
 
 use crate::fault::TextFault;
 use crate::scan::{next, peek};
 use crate::token::Token;
-use std::alloc::{AllocError, AllocFailed, Global};
-use thiserror::Error;
+use std::alloc::{AllocError, Global};
+use std::marker::Model;
+use words::reserved::Reserved;
 
 // Looks at the whole source before any of its tokens is used: its refusals come first.
 #[tactic(auto, unfolding(crate::specs::Cut::texted))]
@@ -26,54 +27,49 @@ pub fn check(source: &[u8]) -> Result<(), TextFault>
     Ok(())
 }
 
-// Why there is no list of tokens: the text is refused, or no memory is left for it.
-#[derive(Clone, Copy, PartialEq, Eq, Debug, Error)]
-pub enum TokensFault {
-    #[error(transparent)]
-    Text(TextFault),
-    #[error("want of memory")]
-    Memory,
+// Room for the tokens of a source: none has more tokens than bytes. Made once, used for any number of sources.
+#[derive(Drop)]
+pub struct Tokens<'a> {
+    list: Reserved<Token<'a>, 32768>,
 }
 
-// By hand: a derived one says nothing of the error that `?` makes; and the cases of those below hold no error, so that none
-// can be derived.
-impl From<TextFault> for TokensFault {
-    ghost from_gives = { λ e r. r ≡ Text e };
+// The tokens of the source that was cut last.
+impl<'a> Model for Tokens<'a> {
+    ghost Value = { List Token };
 
-    fn from(e: TextFault) -> TokensFault {
-        TokensFault::Text(e)
-    }
+    ghost view = { λ s. s.list };
 }
 
-impl From<AllocError> for TokensFault {
-    ghost from_gives = { λ _ r. r ≡ Memory };
-
-    fn from(_e: AllocError) -> TokensFault {
-        TokensFault::Memory
+impl<'a> Tokens<'a> {
+    // The only call that asks for memory.
+    pub fn new(heap: Global) -> Result<Tokens<'a>, AllocError>
+        ensures { IfOk result (λ t. t ≡ []) }
+    {
+        let list = Reserved::new(heap)?;
+        Ok(Tokens { list })
     }
-}
 
-impl<T: Drop> From<AllocFailed<T>> for TokensFault {
-    ghost from_gives = { λ _ r. r ≡ Memory };
-
-    fn from(_e: AllocFailed<T>) -> TokensFault {
-        TokensFault::Memory
+    // All tokens of the source, in their order; none where it is refused.
+    #[tactic(auto, using(crate::proofs::Readings::reads_short))]
+    pub fn cut(&mut self, source: &'a [u8]) -> Result<(), TextFault>
+        ensures { Listed source.now self.new result }
+    {
+        self.list.clear();
+        check(source)?;
+        let end = source.len();
+        let mut rest = source;
+        while let Some((t, after)) = peek(rest, end) {
+            let _ = self.list.push(t);
+            rest = after;
+        }
+        Ok(())
     }
-}
 
-// All tokens of the source, in their order. Where memory runs out the text has no refusal.
-pub fn tokens<'a>(heap: Global, source: &'a [u8]) -> Result<Vec<Token<'a>>, TokensFault>
-    ensures { Listed source.now result }
-{
-    check(source)?;
-    let end = source.len();
-    let mut out = Vec::new(heap);
-    let mut rest = source;
-    while let Some((t, after)) = peek(rest, end) {
-        out.push(t)?;
-        rest = after;
+    pub fn as_slice(&self) -> &[Token<'a>]
+        ensures { result.now ≡ self.now }
+    {
+        self.list.as_slice()
     }
-    Ok(out)
 }
 
 // Tokens, blanks and comments put together again are the source; each token is the longest that begins at its place;

@@ -9,7 +9,7 @@ use Rattle.machine.specs.Machine.{State, state, run}
 use Rattle.meaning.specs.Effects.{Store, leave, writes_of}
 use Rattle.meaning.specs.Meaning.{exec, Within}
 use Rattle.meaning.proofs.Cells.{confined}
-use Rattle.session.specs.Sessions.{begun}
+use Rattle.machine.specs.Sessions.{begun}
 use Rattle.agreement.specs.Agreement.{Agrees, after}
 use Rattle.agreement.proofs.Whole.{agreement}
 use Rattle.agreement.proofs.Admitted.{admitted_within}

@@ -11,7 +11,7 @@ use Rattle.machine.specs.declared.ending.Ending.TheVariants.{Halted, Stopped}
 use Rattle.machine.specs.Machine.{State, state, run}
 use Rattle.meaning.specs.Effects.{leave, writes_of}
 use Rattle.meaning.specs.Meaning.{exec}
-use Rattle.session.specs.Sessions.{begun}
+use Rattle.machine.specs.Sessions.{begun}
 use Rattle.agreement.specs.Agreement.{end_of}
 use Rattle.code.specs.Compile.{Code, compiled, CompiledTree}
 use Rattle.code.specs.Examples.{Row as CodeRow, rows as code_rows}

@@ -1,3 +1,5 @@
+pub mod Faults
 pub mod Trials
+pub mod Promised
 pub mod Examples
 pub mod Cells

@@ -1,6 +1,12 @@
-// What some sources come to.
+// What sources on the machine come to.
 ghost use Rattle.trials.specs.Cells.{OwnCells};
 ghost use Rattle.trials.specs.Examples.{Examples};
+ghost use Rattle.trials.specs.Promised.{Promised};
+
+// Whoever makes the calls: a session with what a source is compiled to starts, and keeps the promise of the source.
+pub fn sessions_keep_the_promise()
+    ensures { Promised }
+{}
 
 // Sources from their text to the end of their run.
 pub fn examples_stand()

@@ -1,10 +1,10 @@
 -- The words of a memory, cell by cell.
-use Rattle.std.specs.Prelude.{◌≡◌, ℕ, zero, suc, ◌+◌, ◌-◌, ◌*◌, ◌/◌, ◌%◌, ◌<◌, ◌≤◌, min, List, [], ◌∷◌, ◌++◌, map, length, take, set, Ok, slice_index, slice_set, refl}
+use Rattle.std.specs.Prelude.{◌≡◌, ℕ, zero, suc, ◌+◌, ◌-◌, ◌*◌, ◌/◌, ◌%◌, ◌<◌, ◌≤◌, min, List, [], ◌∷◌, ◌++◌, map, length, take, drop, set, Ok, slice_index, slice_set, refl}
 use Rattle.std.proofs.Common.{sym, ap, ◌∙◌, ⊎_elim, arith}
-use Rattle.std.proofs.lemmas.List.{length-take, length-map, length-append, get_or-take, get_or-map, get_or_past, map-set, get_or_append_left, get_or-append_right, set-append_left, set-append_right}
+use Rattle.std.proofs.lemmas.List.{length-take, length-map, length-append, get_or-take, get_or-map, get_or_past, map-set, get_or_append_left, get_or-append_right, set-append_left, set-append_right, drop-set-lt, length-set}
 use Rattle.std.proofs.lemmas.Bool.{cases_lt, cond_below}
 use Rattle.words.specs.Refusals.{refuse}
-use Rattle.words.specs.Stores.{cell_of, word, pair, words_of, pairs, pairs_of, joined_of}
+use Rattle.words.specs.Stores.{cell_of, word, pair, words_of, past_words, pairs, pairs_of, past_pairs, joined_of, past_joined}
 
 pub take_set_any : {X : Type 0} (n : ℕ) (l : List X) (i : ℕ) (a : X) → take n (slice_set l i a) ≡ slice_set (take n l) i a
 take_set_any zero l i a = refl
@@ -31,6 +31,9 @@ unfolding words_of
 set_words_of xs k w h =
     let e : w % 65536 ≡ w = omega arith in
     ap (map word) (take_set_any 65535 xs k w) ∙ map-set word (take 65535 xs) k w ∙ ap (λ v. set (map word (take 65535 xs)) k v) e
+
+pub past_set_words : (xs : List ℕ) (k w : ℕ) → k < 65535 → past_words (slice_set xs k w) ≡ past_words xs
+past_set_words xs k w h = drop-set-lt 65535 xs k w h
 
 pub small_words_of : (xs : List ℕ) (k : ℕ) → slice_index (words_of xs) k < 65536
 small_words_of xs k =
@@ -80,6 +83,15 @@ set_pairs_of bs k w h s =
     let m : k < length (pairs bs) = omega (arith, length-take 65535 (pairs bs)) in
     ap (take 65535) (set_pairs bs k w m s) ∙ take_set_any 65535 (pairs bs) k w
 
+-- the bytes of a word that is set lie before those that are past the words
+pub past_set_pairs : (bs : List ℕ) (k h l : ℕ) → k < length (pairs_of bs) → past_pairs (slice_set (slice_set bs (2 * k) h) (2 * k + 1) l) ≡ past_pairs bs
+past_set_pairs bs k h l p =
+    let ds = set (set bs (2 * k) h) (2 * k + 1) l in
+    let m = 2 * length (pairs_of bs) in
+    let e : length (pairs_of ds) ≡ length (pairs_of bs) =
+    omega (arith, length_pairs_of ds, length_pairs_of bs, length-set (set bs (2 * k) h) (2 * k + 1) l, length-set bs (2 * k) h) in
+    ap (λ n. drop (2 * n) ds) e ∙ drop-set-lt m (set bs (2 * k) h) (2 * k + 1) l (omega (arith, p)) ∙ drop-set-lt m bs (2 * k) h (omega (arith, p))
+
 pub small_pairs_of : (bs : List ℕ) (k : ℕ) → slice_index (pairs_of bs) k < 65536
 small_pairs_of bs k =
     ⊎_elim (λ h. omega (arith, get_or_pairs_of bs k h)) (λ h. omega (arith, get_or_past (pairs_of bs) k 0 h)) (cases_lt k (length (pairs_of bs)))
@@ -105,6 +117,12 @@ set_first xs ys k w h = ap (take 65535) (sym (set-append_left xs ys k w h)) ∙ 
 pub set_second : (xs ys : List ℕ) (m k w : ℕ) → m ≡ length xs → m ≤ k → joined_of xs (slice_set ys (k - m) w) ≡ slice_set (joined_of xs ys) k w
 unfolding joined_of
 set_second xs ys m k w e h = ap (take 65535) (sym (set-append_right xs ys m k w (sym e) h)) ∙ take_set_any 65535 (xs ++ ys) k w
+
+pub past_set_first : (xs ys : List ℕ) (k w : ℕ) → k < length xs → k < 65535 → past_joined (slice_set xs k w) ys ≡ past_joined xs ys
+past_set_first xs ys k w h s = ap (drop 65535) (sym (set-append_left xs ys k w h)) ∙ drop-set-lt 65535 (xs ++ ys) k w s
+
+pub past_set_second : (xs ys : List ℕ) (m k w : ℕ) → m ≡ length xs → m ≤ k → k < 65535 → past_joined xs (slice_set ys (k - m) w) ≡ past_joined xs ys
+past_set_second xs ys m k w e h s = ap (drop 65535) (sym (set-append_right xs ys m k w (sym e) h)) ∙ drop-set-lt 65535 (xs ++ ys) k w s
 
 -- a cell of one store answers as a cell of another, where both have it and the answers are the same
 pub cell_like : {A : Type 0} (xs ys : List ℕ) (i k : ℕ) (x y : A) → i < length xs → k < length ys → y ≡ x → cell_of xs i x ≡ cell_of ys k y

@@ -1,5 +1,5 @@
 -- The instructions.
-use Rattle.std.specs.Prelude.{ℕ, List, [], ◌∷◌}
+use Rattle.std.specs.Prelude.{ℕ, List, [], ◌∷◌, codes}
 use Rattle.words.specs.declared.op.Op.{Op}
 use Rattle.words.specs.declared.op.Op.TheVariants.{Halt, Lit, Load, Stor, Ldx, Stx, Chk, Dup, Drop, Add, Sub, Mul, Div, Rem, Neg, Ladd, Lsub, Lmul, Ldiv, Lrem, Cmp, Lcmp, And, Or, Xor, Not, Fld, Dep, Shf, Br, Bre, Case, For, Next}
 
@@ -116,3 +116,40 @@ taken_by Bre a = 1
 taken_by Case a = 1
 taken_by For a = 2
 taken_by Next a = 2
+
+-- how a listing names it
+abbrev pub op_text : Op → List ℕ
+op_text Halt = codes "HALT"
+op_text Lit = codes "LIT"
+op_text Load = codes "LOAD"
+op_text Stor = codes "STOR"
+op_text Ldx = codes "LDX"
+op_text Stx = codes "STX"
+op_text Chk = codes "CHK"
+op_text Dup = codes "DUP"
+op_text Drop = codes "DROP"
+op_text Add = codes "ADD"
+op_text Sub = codes "SUB"
+op_text Mul = codes "MUL"
+op_text Div = codes "DIV"
+op_text Rem = codes "REM"
+op_text Neg = codes "NEG"
+op_text Ladd = codes "LADD"
+op_text Lsub = codes "LSUB"
+op_text Lmul = codes "LMUL"
+op_text Ldiv = codes "LDIV"
+op_text Lrem = codes "LREM"
+op_text Cmp = codes "CMP"
+op_text Lcmp = codes "LCMP"
+op_text And = codes "AND"
+op_text Or = codes "OR"
+op_text Xor = codes "XOR"
+op_text Not = codes "NOT"
+op_text Fld = codes "FLD"
+op_text Dep = codes "DEP"
+op_text Shf = codes "SHF"
+op_text Br = codes "BR"
+op_text Bre = codes "BRE"
+op_text Case = codes "CASE"
+op_text For = codes "FOR"
+op_text Next = codes "NEXT"

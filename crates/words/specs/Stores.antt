@@ -1,5 +1,5 @@
 -- What a store answers, and the words that memory stands for.
-use Rattle.std.specs.Prelude.{ℕ, ◌+◌, ◌*◌, ◌%◌, cond, List, [], ◌∷◌, ◌++◌, map, length, take, Ok, Result, nat_lt, slice_index}
+use Rattle.std.specs.Prelude.{ℕ, ◌+◌, ◌*◌, ◌%◌, cond, List, [], ◌∷◌, ◌++◌, map, length, drop, take, Ok, Result, nat_lt, slice_index}
 use Rattle.words.specs.Refusals.{refuse}
 use Rattle.words.specs.declared.refusal.Refusal.{Refusal}
 use Rattle.words.specs.declared.store.StoreFault.{StoreFault}
@@ -29,6 +29,10 @@ pair h l = (h % 256) * 256 + l % 256
 unfoldable pub words_of : List ℕ → List ℕ
 words_of xs = map word (take 65535 xs)
 
+-- the words that lie past those
+abbrev pub past_words : List ℕ → List ℕ
+past_words xs = drop 65535 xs
+
 -- two bytes to a word, the high one first, an odd last one left out
 abbrev pub pairs : List ℕ → List ℕ
 pairs [] = []
@@ -39,6 +43,14 @@ pairs (h ∷ l ∷ rest) = pair h l ∷ pairs rest
 unfoldable pub pairs_of : List ℕ → List ℕ
 pairs_of bs = take 65535 (pairs bs)
 
+-- the bytes that lie past those of the words, an odd last one among them
+abbrev pub past_pairs : List ℕ → List ℕ
+past_pairs bs = drop (2 * length (pairs_of bs)) bs
+
 -- two memories end to end
 unfoldable pub joined_of : List ℕ → List ℕ → List ℕ
 joined_of xs ys = take 65535 (xs ++ ys)
+
+-- the words of the two that lie past those
+abbrev pub past_joined : List ℕ → List ℕ → List ℕ
+past_joined xs ys = drop 65535 (xs ++ ys)

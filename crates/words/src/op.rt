@@ -1,6 +1,6 @@
 // The instructions.
 ghost use Rattle.std.specs.Prelude.{◌≡◌, MatchResult, Some, None, slice_get};
-ghost use Rattle.words.specs.Ops.{ops, number_of, named_by, taken_by};
+ghost use Rattle.words.specs.Ops.{ops, number_of, named_by, taken_by, op_text};
 
 use std::fmt;
 use thiserror::Error;
@@ -60,7 +60,9 @@ pub struct UnknownOp(pub u16);
 impl TryFrom<u16> for Op {
     type Error = UnknownOp;
 
-    ghost try_from_gives = { λ number r. MatchResult r (λ op. slice_get ops number ≡ Some op) (λ _. slice_get ops number ≡ None) };
+    ghost try_from_gives = { λ number r. MatchResult r
+        (λ op. slice_get ops number ≡ Some op)
+        (λ e. (e ≡ record { 0 = number }) × (slice_get ops number ≡ None)) };
 
     #[inline(always)]
     fn try_from(number: u16) -> Result<Op, UnknownOp> {
@@ -144,12 +146,12 @@ impl Op {
             _ => 2,
         }
     }
-}
 
-// How a listing names it. By hand: of enums only errors have a derive that prints.
-impl fmt::Display for Op {
-    fn fmt<W: fmt::Write>(&self, f: &mut fmt::Formatter<W>) -> fmt::Result {
-        f.pad(match self {
+    // How a listing names it.
+    fn text(self) -> &'static str
+        ensures { result.now ≡ op_text self }
+    {
+        match self {
             Op::Halt => "HALT",
             Op::Lit => "LIT",
             Op::Load => "LOAD",
@@ -184,6 +186,15 @@ impl fmt::Display for Op {
             Op::Case => "CASE",
             Op::For => "FOR",
             Op::Next => "NEXT",
-        })
+        }
+    }
+}
+
+// By hand: the derive says nothing of the text.
+impl fmt::Display for Op {
+    ghost output = { λ op. Some (op_text op) };
+
+    fn fmt<W: fmt::Write>(&self, f: &mut fmt::Formatter<W>) -> fmt::Result {
+        f.pad(self.text())
     }
 }

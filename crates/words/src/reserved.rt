@@ -1,6 +1,6 @@
-// A list in memory of its own with room for N, reserved when it was made: what is put on it cannot fail. Its end is the
+// A list in memory of its own with room for N, reserved when it was made: no push asks for memory. Its end is the
 // top of a stack. A `Vec`, since N is too large for a value that lies in place, as the kit's `ArrayVec` does.
-ghost use Rattle.std.specs.Prelude.{◌≡◌, ◌<◌, ◌≤◌, List, [], ◌∷◌, ◌++◌, IfOk, MatchOption, drop, length, reverse, slice_get, vec_capacity};
+ghost use Rattle.std.specs.Prelude.{◌≡◌, ◌<◌, ◌≤◌, cond, List, [], ◌∷◌, ◌++◌, Ok, Err, IfOk, MatchOption, drop, length, nat_le, nat_lt, reverse, slice_get, vec_capacity};
 ghost use Rattle.words.specs.Stacks.{below};
 
 use crate::list::Bounded;
@@ -36,12 +36,19 @@ impl<T: Drop, const N: usize> Reserved<T, N> {
         self.items.len()
     }
 
-    pub fn push(&mut self, x: T)
-        requires { length self.old < N }
-        ensures items { self.new ≡ self.old ++ x ∷ [] }
-        ensures tops { reverse self.new ≡ x ∷ reverse self.old }
+    // Adds at the end; where there are N already, gives the element back and changes nothing.
+    #[inline(always)]
+    pub fn push(&mut self, x: T) -> Result<(), T>
+        ensures answer { result ≡ cond (nat_lt (length self.old) N) (Ok tt) (Err x) }
+        ensures items { length self.old < N → self.new ≡ self.old ++ x ∷ [] }
+        ensures tops { length self.old < N → reverse self.new ≡ x ∷ reverse self.old }
+        ensures full { N ≤ length self.old → self.new ≡ self.old }
     {
+        if self.items.len() >= N {
+            return Err(x);
+        }
         self.items.push_reserved(x);
+        Ok(())
     }
 
     // Takes the top, if there is one.
@@ -79,16 +86,23 @@ impl<T: Copy, const N: usize> Reserved<T, N> {
         }
     }
 
-    // Writes all to the front of the table, the top first, and leaves the list empty.
-    pub fn hand_over(&mut self, table: &mut [T])
-        requires { length self.old ≤ length table.old }
-        ensures laid { table.new ≡ reverse self.old ++ drop (length self.old) table.old }
-        ensures left { self.new ≡ [] }
+    // Writes all to the front of the table, the top first, and leaves the list empty. Where the table is shorter, refuses
+    // with the length of the list, and changes neither.
+    pub fn hand_over(&mut self, table: &mut [T]) -> Result<(), usize>
+        ensures answer { result ≡ cond (nat_le (length self.old) (length table.old)) (Ok tt) (Err (length self.old)) }
+        ensures laid { length self.old ≤ length table.old → table.new ≡ reverse self.old ++ drop (length self.old) table.old }
+        ensures left { length self.old ≤ length table.old → self.new ≡ [] }
+        ensures short { length table.old < length self.old → (table.new ≡ table.old) × (self.new ≡ self.old) }
     {
+        let n = self.len();
+        if n > table.len() {
+            return Err(n);
+        }
         let mut list = Bounded::new(table);
         while let Some(x) = self.pop() {
             let _ = list.push(x);
         }
+        Ok(())
     }
 }
 
@@ -100,19 +114,24 @@ mod tests {
     fn what_is_put_comes_back_from_the_top(rt: HostRuntime) {
         match Reserved::<u16, 3>::new(rt.alloc()) {
             Ok(mut list) => {
-                list.push(7);
-                list.push(8);
+                let _ = list.push(7);
+                let _ = list.push(8);
                 assert_eq!(rt; list.peek(1), Some(7), "below the top");
                 assert_eq!(rt; list.pop(), Some(8), "the top");
-                list.push(9);
+                let _ = list.push(9);
                 assert_eq!(rt; list.len(), 2, "both");
+                assert_eq!(rt; list.hand_over(&mut [0]), Err(2), "the table is too short");
                 let mut table = [0, 0, 5];
-                list.hand_over(&mut table);
+                assert_eq!(rt; list.hand_over(&mut table), Ok(()), "all are handed over");
                 assert_eq!(rt;
                     table,
                     [9, 7, 5],
                     "the top first, and what lies past them is kept"
                 );
+                assert_eq!(rt; list.push(1), Ok(()), "the first of three");
+                assert_eq!(rt; list.push(2), Ok(()), "the second");
+                assert_eq!(rt; list.push(3), Ok(()), "the third");
+                assert_eq!(rt; list.push(4), Err(4), "there is room for three");
             }
             Err(_) => assert!(rt; false, "there is memory for three words"),
         }

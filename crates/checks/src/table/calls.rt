@@ -10,7 +10,7 @@ ghost use Rattle.checks.specs.Sizes.{cells_at};
 ghost use Rattle.checks.specs.Entered.{row_as, cells_of, sort_of};
 ghost use Rattle.checks.specs.Tabled.{table_as};
 
-use crate::entry::{NameEntry, Sort, complete};
+use crate::entry::{NameEntry, Sort};
 use crate::fault::{CheckFault, answer, unless};
 use crate::table::NameTable;
 use crate::view::{Declaration, Mention};
@@ -80,7 +80,7 @@ impl NameTable {
             cell: self.cells,
             cells: 0,
         });
-        self.cells += complete(&mut self.entries[i], d.high);
+        self.cells += self.entries[i].complete(d.high);
     }
 
     // Declares a name: 8 if it is known, 9 if it is the 65th, else it is entered.

@@ -1,5 +1,7 @@
 // An emitter is made and used.
+ghost use Rattle.std.specs.Prelude.{IfOk};
 ghost use Rattle.emit.specs.Measure.{Emits};
+ghost use Rattle.emit.specs.Passes.{IsBlank};
 
 use crate::backward::Backward;
 use crate::emitter::Emitter;
@@ -13,7 +15,9 @@ use words::reserved::Reserved;
 
 impl Emitter {
     // The only call that asks for memory.
-    pub fn new(heap: Global) -> Result<Emitter, AllocError> {
+    pub fn new(heap: Global) -> Result<Emitter, AllocError>
+        ensures { IfOk result (λ e. IsBlank e) }
+    {
         Ok(Emitter {
             starts: Reserved::new(heap)?,
             places: Reserved::new(heap)?,

@@ -1,7 +1,7 @@
 // The steps of a machine.
 ghost use Rattle.std.specs.Prelude.{◌≡◌, ◌+◌, ◌<◌, ◌≤◌, length, None, IfOk};
 ghost use Rattle.machine.specs.Machine.{made, fetched, goes, Makes, pops as pops_of, step as step_of, run as run_of};
-ghost use Rattle.machine.specs.Lent.{registers_of, state_of, Lasts};
+ghost use Rattle.machine.specs.Registers.{registers_of, state_of, Lasts};
 
 use super::Machine;
 use crate::act::act;
@@ -10,7 +10,7 @@ use crate::vm::{Move, Vm};
 use words::store::Store;
 
 impl<S: Store> Machine<'_, '_, '_, '_, S> {
-    pub fn registers(&self) -> Vm
+    pub(crate) fn registers(&self) -> Vm
         ensures { result ≡ registers_of self.now }
     {
         Vm {
@@ -28,7 +28,10 @@ impl<S: Store> Machine<'_, '_, '_, '_, S> {
         requires counts { self.old.writes < self.old.steps }
         requires pops { pops_of m ≤ self.old.stack.now.len }
         requires place { self.old.place < 65536 }
-        ensures did { Makes result (state_of S.Store.words self.old) (state_of S.Store.words self.new) (made self.old.depth m (state_of S.Store.words self.old)) }
+        ensures did {
+            let before = state_of S.Store.words self.old in
+            Makes result before (state_of S.Store.words self.new) (made self.old.depth m before)
+        }
         ensures lasts { Lasts S.Store.keeps self.old self.new }
     {
         match m {
@@ -80,7 +83,10 @@ impl<S: Store> Machine<'_, '_, '_, '_, S> {
     #[inline(always)]
     fn advance(&mut self) -> Result<(), Ending>
         requires { self.old.writes < self.old.steps }
-        ensures did { Makes result (state_of S.Store.words self.old) (state_of S.Store.words self.new) (goes self.old.code.now self.old.depth (state_of S.Store.words self.old)) }
+        ensures did {
+            let before = state_of S.Store.words self.old in
+            Makes result before (state_of S.Store.words self.new) (goes self.old.code.now self.old.depth before)
+        }
         ensures lasts { Lasts S.Store.keeps self.old self.new }
     {
         let m = self.fetch()?;
@@ -92,7 +98,10 @@ impl<S: Store> Machine<'_, '_, '_, '_, S> {
     fn cycle(&mut self)
         requires steps { self.old.steps < 4000000000 }
         requires going { self.old.ending ≡ None }
-        ensures did { state_of S.Store.words self.new ≡ step_of self.old.code.now self.old.depth (state_of S.Store.words self.old) }
+        ensures did {
+            let before = state_of S.Store.words self.old in
+            state_of S.Store.words self.new ≡ step_of self.old.code.now self.old.depth before
+        }
         ensures lasts { Lasts S.Store.keeps self.old self.new }
     {
         self.steps += 1;
@@ -103,9 +112,12 @@ impl<S: Store> Machine<'_, '_, '_, '_, S> {
 
     // So many steps, fewer only if the run ends.
     #[inline(always)]
-    pub fn run(&mut self, steps: u64)
+    pub(crate) fn run(&mut self, steps: u64)
         requires { self.old.steps + steps ≤ 4000000000 }
-        ensures did { state_of S.Store.words self.new ≡ run_of self.old.code.now self.old.depth steps (state_of S.Store.words self.old) }
+        ensures did {
+            let before = state_of S.Store.words self.old in
+            state_of S.Store.words self.new ≡ run_of self.old.code.now self.old.depth steps before
+        }
         ensures lasts { Lasts S.Store.keeps self.old self.new }
     {
         for i in 0..steps {

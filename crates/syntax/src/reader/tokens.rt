@@ -17,7 +17,7 @@ pub(crate) fn put(out: &mut Nodes, node: Node)
     ensures items { entries out.new ≡ entries out.old ++ entry_of node ∷ [] }
     ensures len { length out.new ≡ length out.old + 1 }
 {
-    out.push(node);
+    let _ = out.push(node);
 }
 
 impl Reader<'_, '_> {

@@ -1,16 +1,20 @@
 // A trial is made and run.
-ghost use Rattle.std.specs.Prelude.{◌≡◌, ◌≤◌, [], length, IfOk};
+ghost use Rattle.std.specs.Prelude.{◌≡◌, [], IfOk};
+ghost use Rattle.words.specs.Refusals.{told};
 ghost use Rattle.checks.specs.Works.{holds, nodes_of, nothing};
-ghost use Rattle.trials.specs.Trials.{Readies, Makes, Tries};
+ghost use Rattle.code.specs.Compile.{compiled};
+ghost use Rattle.machine.specs.Faults.{refusal_of as session_refusal};
+ghost use Rattle.trials.specs.Faults.{refusal_of};
+ghost use Rattle.trials.specs.Trials.{lent, coded, Makes, Tries};
 
 use crate::fault::TrialFault;
 use crate::trial::Trial;
 use code::compiler::Compiler;
 use code::fault::CompileFault;
-use session::call::{Answer, Call};
-use session::fault::{CallFault, SessionFault};
-use session::lent::Lent;
-use session::session::Session;
+use machine::call::Exchange;
+use machine::fault::SessionFault;
+use machine::lent::Lent;
+use machine::session::Session;
 use std::alloc::{AllocError, Global};
 use words::code::Code;
 use words::instr::Instr;
@@ -21,11 +25,11 @@ fn make<S: Store>(
     code: Code<'_>,
     stack: &mut [u16],
     store: &mut S,
-    calls: &[Call],
-    answers: &mut [Result<Answer, CallFault>],
+    exchanges: &mut [Exchange],
 ) -> Result<Session, SessionFault>
-    requires { length calls.now ≤ length answers.old }
-    ensures did { Makes result code.entry.cells code.entry.depth code.entry.instructions.now calls.now stack.old stack.new (S.Store.words store.old) (S.Store.words store.new) answers.old answers.new }
+    ensures did { let before = lent exchanges.old stack.old (S.Store.words store.old) in
+        let after = lent exchanges.new stack.new (S.Store.words store.new) in
+        Makes (told session_refusal result) code.entry before after }
     ensures keeps { S.Store.keeps store.old store.new }
 {
     let mut lent = Lent {
@@ -34,7 +38,7 @@ fn make<S: Store>(
         store,
     };
     let mut session = Session::start(code.cells, code.depth, &lent)?;
-    let _ = session.play(&mut lent, calls, answers);
+    session.play(&mut lent, exchanges);
     Ok(session)
 }
 
@@ -51,7 +55,7 @@ impl Trial {
 
     // The code of a source, until the next one takes its place.
     pub fn ready(&mut self, source: &[u8]) -> Result<Code<'_>, CompileFault>
-        ensures { Readies source.now result }
+        ensures { coded result ≡ compiled source.now 16383 }
     {
         let figures = self.compiler.compile(source, self.table.as_mut_slice())?;
         Ok(Code {
@@ -62,23 +66,21 @@ impl Trial {
     }
 
     // Compiles a source, starts a session with its code, and makes the calls. Whatever refuses is found before the first
-    // of them, and then stack, store and answers are as they were. A call that is refused has its refusal for an answer.
+    // of them, and then stack, store and exchanges are as they were. A call that is refused has its refusal for an answer.
     pub fn play<S: Store>(
         &mut self,
         source: &[u8],
         stack: &mut [u16],
         store: &mut S,
-        calls: &[Call],
-        answers: &mut [Result<Answer, CallFault>],
+        exchanges: &mut [Exchange],
     ) -> Result<Session, TrialFault>
-        ensures did { Tries result source.now calls.now stack.old stack.new (S.Store.words store.old) (S.Store.words store.new) answers.old answers.new }
+        ensures did { let before = lent exchanges.old stack.old (S.Store.words store.old) in
+            let after = lent exchanges.new stack.new (S.Store.words store.new) in
+            Tries (told refusal_of result) source.now before after }
         ensures keeps { S.Store.keeps store.old store.new }
     {
-        if answers.len() < calls.len() {
-            return Err(TrialFault::Places);
-        }
         let code = self.ready(source)?;
-        let session = make(code, stack, store, calls, answers)?;
+        let session = make(code, stack, store, exchanges)?;
         Ok(session)
     }
 }

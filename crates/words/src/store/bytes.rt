@@ -1,8 +1,8 @@
 // A store of bytes that were lent, two to a word, the high one first.
-ghost use Rattle.std.specs.Prelude.{◌≡◌, ◌+◌, ◌/◌, ◌%◌, ◌<◌, length, drop, slice_index, slice_set, refl};
+ghost use Rattle.std.specs.Prelude.{◌≡◌, ◌+◌, ◌/◌, ◌%◌, ◌<◌, length, slice_index, slice_set, refl};
 ghost use Rattle.std.proofs.Common.{◌∙◌};
 ghost use Rattle.words.specs.Cells.{short_pairs_of, small_pairs_of};
-ghost use Rattle.words.specs.Stores.{pair, pairs_of};
+ghost use Rattle.words.specs.Stores.{pair, pairs_of, past_pairs};
 
 use super::{MOST, Store, StoreFault, within};
 
@@ -34,7 +34,7 @@ fn put(cells: &mut [u8], i: usize, w: u16)
 impl<'a> Store for Bytes<'a> {
     ghost words = { λ s. pairs_of s.cells.now };
 
-    ghost keeps = { λ s t. (t.cells.ghost_name ≡ s.cells.ghost_name) × (drop 131070 t.cells.now ≡ drop 131070 s.cells.now) };
+    ghost keeps = { λ s t. (t.cells.ghost_name ≡ s.cells.ghost_name) × (past_pairs t.cells.now ≡ past_pairs s.cells.now) };
 
     ghost short = { λ s. short_pairs_of s.cells.now };
 
@@ -55,6 +55,7 @@ impl<'a> Store for Bytes<'a> {
         Ok(at(self.cells, 2 * cell as usize))
     }
 
+    #[tactic(auto, using(crate::specs::Cells::length_pairs_of, crate::specs::Cells::set_pairs_of, crate::specs::Cells::past_set_pairs))]
     #[inline(always)]
     fn write(&mut self, cell: u16, w: u16) -> Result<(), StoreFault> {
         within(cell, self.size())?;

@@ -3,7 +3,7 @@ ghost use Rattle.std.specs.Prelude.{◌≡◌, refl};
 ghost use Rattle.std.proofs.Common.{◌∙◌};
 ghost use Rattle.words.specs.Cells.{short_joined_of, small_joined_of};
 ghost use Rattle.words.specs.Halves.{half_of};
-ghost use Rattle.words.specs.Stores.{joined_of};
+ghost use Rattle.words.specs.Stores.{joined_of, past_joined};
 
 use super::{Store, StoreFault, within};
 
@@ -36,15 +36,27 @@ fn which_half(cell: u16, m: u16) -> Half
 impl<'a, 'b, X: Store, Y: Store> Store for Joined<'a, 'b, X, Y> {
     ghost words = { λ s. joined_of (X.Store.words s.first.now) (Y.Store.words s.second.now) };
 
-    ghost keeps = { λ s t. (t.first.ghost_name ≡ s.first.ghost_name) × (t.second.ghost_name ≡ s.second.ghost_name) × X.Store.keeps s.first.now t.first.now × Y.Store.keeps s.second.now t.second.now };
+    // and the words of the second store that are none of the joined ones
+    ghost keeps = { λ s t. (t.first.ghost_name ≡ s.first.ghost_name)
+        × (t.second.ghost_name ≡ s.second.ghost_name)
+        × (past_joined (X.Store.words t.first.now) (Y.Store.words t.second.now)
+        ≡ past_joined (X.Store.words s.first.now) (Y.Store.words s.second.now))
+        × X.Store.keeps s.first.now t.first.now
+        × Y.Store.keeps s.second.now t.second.now };
 
     ghost short = { λ s. short_joined_of (X.Store.words s.first.now) (Y.Store.words s.second.now) };
 
     ghost small = { λ s k. small_joined_of (X.Store.words s.first.now) (Y.Store.words s.second.now) (X.Store.small s.first.now) (Y.Store.small s.second.now) k };
 
-    ghost stays = { λ s. (refl, refl, X.Store.stays s.first.now, Y.Store.stays s.second.now) };
+    ghost stays = { λ s. (refl, refl, refl, X.Store.stays s.first.now, Y.Store.stays s.second.now) };
 
-    ghost goes = { λ s t u p q. (q.0 ∙ p.0, q.1 ∙ p.1, X.Store.goes s.first.now t.first.now u.first.now p.2 q.2, Y.Store.goes s.second.now t.second.now u.second.now p.3 q.3) };
+    ghost goes = { λ s t u p q. (
+      q.0 ∙ p.0,
+      q.1 ∙ p.1,
+      q.2 ∙ p.2,
+      X.Store.goes s.first.now t.first.now u.first.now p.3 q.3,
+      Y.Store.goes s.second.now t.second.now u.second.now p.4 q.4,
+    ) };
 
     #[inline(always)]
     fn size(&self) -> u16 {
@@ -60,6 +72,7 @@ impl<'a, 'b, X: Store, Y: Store> Store for Joined<'a, 'b, X, Y> {
         }
     }
 
+    #[tactic(auto, using(crate::proofs::Chosen::written))]
     #[inline(always)]
     fn write(&mut self, cell: u16, w: u16) -> Result<(), StoreFault> {
         within(cell, self.size())?;

@@ -1,8 +1,8 @@
 // A store of words that were lent.
-ghost use Rattle.std.specs.Prelude.{◌≡◌, ◌<◌, length, drop, slice_index, slice_set, refl};
+ghost use Rattle.std.specs.Prelude.{◌≡◌, ◌<◌, length, slice_index, slice_set, refl};
 ghost use Rattle.std.proofs.Common.{◌∙◌};
 ghost use Rattle.words.specs.Cells.{short_words_of, small_words_of};
-ghost use Rattle.words.specs.Stores.{words_of};
+ghost use Rattle.words.specs.Stores.{past_words, words_of};
 
 use super::{MOST, Store, StoreFault, within};
 
@@ -31,7 +31,7 @@ fn put(cells: &mut [u16], i: usize, w: u16)
 impl<'a> Store for Words<'a> {
     ghost words = { λ s. words_of s.cells.now };
 
-    ghost keeps = { λ s t. (t.cells.ghost_name ≡ s.cells.ghost_name) × (drop 65535 t.cells.now ≡ drop 65535 s.cells.now) };
+    ghost keeps = { λ s t. (t.cells.ghost_name ≡ s.cells.ghost_name) × (past_words t.cells.now ≡ past_words s.cells.now) };
 
     ghost short = { λ s. short_words_of s.cells.now };
 
@@ -52,6 +52,7 @@ impl<'a> Store for Words<'a> {
         Ok(at(self.cells, cell as usize))
     }
 
+    #[tactic(auto, using(crate::specs::Cells::length_words_of, crate::specs::Cells::set_words_of, crate::specs::Cells::past_set_words))]
     #[inline(always)]
     fn write(&mut self, cell: u16, w: u16) -> Result<(), StoreFault> {
         within(cell, self.size())?;

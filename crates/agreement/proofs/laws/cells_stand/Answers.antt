@@ -1,5 +1,5 @@
-use Rattle.agreement.proofs.Named.{celled}
+use Rattle.agreement.proofs.Ruled.{own_cells}
 use Rattle.agreement.proofs.laws.cells_stand.Goals as goal
 
 pub returns : goal.returns
-returns c = celled
+returns c = own_cells

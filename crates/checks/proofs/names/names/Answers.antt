@@ -8,7 +8,7 @@ use Rattle.checks.proofs.names.names.Goals as goal
 pub loop-n-preserved : goal.loop-n-preserved
 loop-n-preserved c =
     names_more c.args.nodes.now c.loop-n.n-index (option_map refusal_of c.loop-n.best) (table_as c.loop-n.table) _ _ c.loop-n.invariant _ _ _ _
-    c.loop-n-test.true c.name_fault.ensures.fault c.soonest-best.ensures c.name_fault.ensures.table
+    c.loop-n-test.true c.n-item.is c.name_fault.ensures.fault c.soonest-best.ensures c.name_fault.ensures.table
 
 pub returns : goal.returns
 returns c =

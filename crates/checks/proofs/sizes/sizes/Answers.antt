@@ -8,7 +8,7 @@ use Rattle.checks.proofs.sizes.sizes.Goals as goal
 pub loop-n-preserved : goal.loop-n-preserved
 loop-n-preserved c =
     sizes_more c.args.nodes.now c.loop-n.n-index (option_map refusal_of c.loop-n.best) (table_as c.args.table.now) _ c.loop-n.invariant _ _ _ _ _
-    c.loop-n-test.true c.cells_fault.ensures c.soonest-first.ensures c.range_fault.ensures c.soonest-best.ensures
+    c.loop-n-test.true c.n-item.is c.cells_fault.ensures c.soonest-first.ensures c.range_fault.ensures c.soonest-best.ensures
 
 pub returns : goal.returns
 returns c =

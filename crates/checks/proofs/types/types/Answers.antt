@@ -8,7 +8,7 @@ use Rattle.checks.proofs.types.types.Goals as goal
 pub loop-n-preserved : goal.loop-n-preserved
 loop-n-preserved c = (
   types_more c.args.nodes.now c.loop-n.n-index (option_map refusal_of c.loop-n.best) (table_as c.args.table.now) c.loop-n.operands _ c.loop-n.invariant.0 _ _ _ _ _
-      c.loop-n-test.true c.rule_of-rule.ensures c.clash.ensures c.soonest-best.ensures c.follow.ensures.tops,
+      c.loop-n-test.true c.n-item.is c.rule_of-rule.ensures c.clash.ensures c.soonest-best.ensures c.follow.ensures.tops,
   omega (arith, c.follow.ensures.len, c.loop-n.invariant.1),
 )
 

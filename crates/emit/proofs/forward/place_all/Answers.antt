@@ -24,7 +24,7 @@ loop-n-preserved c =
     let h = c.loop-n-test.true in
     let q = sym (c.size_of.ensures.0 p) in
     let top = c.unwrap_or.ensures ∙ ap (λ o. unwrap_or o 0) c.peek.ensures ∙ unwrap_or-slice_get ss 0 0 in
-    let pushed : c.push.new.self ≡ c.loop-n.out ++ placed n p ss ∷ [] = c.push.ensures.items ∙ rw (q, top) in (
+    let pushed : c.push.new.self ≡ c.loop-n.out ++ placed n p ss ∷ [] = c.push.ensures.items (omega (arith, h, c.loop-n.invariant.2, c.requires.room)) ∙ rw (q, top) in (
       rw (q, c.follow.ensures.tops) (places_more ns i (item.Plain HALT) h c.loop-n.out _ _ p ss pushed c.loop-n.invariant.0),
       ap (ends (drop (i + 1) ns)) q ∙ sym (ends_more ns i (item.Plain HALT) h p) ∙ c.loop-n.invariant.1,
       omega (arith, ap length pushed, length-append c.loop-n.out (placed n p ss ∷ []), c.loop-n.invariant.2),

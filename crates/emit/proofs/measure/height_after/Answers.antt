@@ -11,4 +11,4 @@ returns-in-Ok c =
     (omega (arith, e, c.saturating_sub.ensures), omega (arith, c.leaves.ensures.1, c.saturating_sub.ensures))
 
 pub returns-in-Err : goal.returns-in-Err
-returns-in-Err c = (height_none c.args.i c.args.h c.in-Err.ensures, omega arith)
+returns-in-Err c = (height_none c.args.i c.args.h c.in-Err.ensures.1, omega arith)

@@ -9,7 +9,7 @@ pub loop-n-preserved : goal.loop-n-preserved
 loop-n-preserved c =
     let l = c.loop-n in (
       writes_more c.args.nodes.now l.n-index l.self.items (table_as c.args.self.now.table) l.self.operands l.self.arms.closed _ l.invariant.0 _ c.rule_of.result (items_of c.emission_of-emission.result) _ _ _
-          c.loop-n-test.true (rw (← l.invariant.1, ← c.operand.ensures, ← c.next.ensures) c.emission_of-emission.ensures) c.append.ensures.items (rw (← l.invariant.1) c.rule_of.ensures) c.follow.ensures.tops (ap (λ (z : Counts). z.closed) c.spend.ensures),
+          c.loop-n-test.true c.n-item.is (rw (← l.invariant.1, ← c.operand.ensures, ← c.next.ensures) c.emission_of-emission.ensures) c.append.ensures.items (rw (← l.invariant.1) c.rule_of.ensures) c.follow.ensures.tops (ap (λ (z : Counts). z.closed) c.spend.ensures),
       l.invariant.1,
       omega (arith, c.follow.ensures.len, l.invariant.2),
       omega (arith, c.append.ensures.len, l.invariant.3),

@@ -1,5 +1,5 @@
 use Rattle.std.proofs.Common.{Ok, Err, rules}
-use Rattle.machine.specs.Lent.{state_of}
+use Rattle.machine.specs.Registers.{state_of}
 use Rattle.machine.proofs.Pops.{pops_held}
 use Rattle.machine.proofs.Steps.{goes_by}
 use Rattle.machine.proofs.machine.Machine.advance.Goals as goal

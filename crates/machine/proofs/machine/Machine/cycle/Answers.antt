@@ -1,4 +1,4 @@
-use Rattle.machine.specs.Lent.{state_of}
+use Rattle.machine.specs.Registers.{state_of}
 use Rattle.machine.proofs.Steps.{step_ok, step_err}
 use Rattle.machine.proofs.machine.Machine.cycle.Goals as goal
 

@@ -1,6 +1,6 @@
 use Rattle.std.proofs.Common.{◌≡◌, is_some, None, sym, refl, ap, ◌∙◌, arith, rules}
 use Rattle.std.proofs.lemmas.Bool.{false≢true}
-use Rattle.machine.specs.Lent.{state_of}
+use Rattle.machine.specs.Registers.{state_of}
 use Rattle.machine.specs.Machine.{step, run}
 use Rattle.machine.proofs.Going.{run_more, early}
 use Rattle.machine.proofs.Steps.{steps_step}

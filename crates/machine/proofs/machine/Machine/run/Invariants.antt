@@ -1,5 +1,5 @@
 use Rattle.std.proofs.Common.{◌≡◌, ◌+◌, ◌≤◌}
-use Rattle.machine.specs.Lent.{state_of, Lasts}
+use Rattle.machine.specs.Registers.{state_of, Lasts}
 use Rattle.machine.specs.Machine.{run}
 use Rattle.machine.proofs.machine.Machine.run.Given as goal
 

@@ -1,0 +1,135 @@
+// `spl compile`: a source compiled into the file of its image.
+use anyhow::anyhow;
+use image::read::decode;
+use report::compiled::{MOST_INSTRUCTIONS, Made, make};
+use std::fs;
+use std::fs::File;
+use std::io::Write as _;
+use text::whole::Tokens;
+use words::code::Figures;
+use words::instr::Instr;
+
+// Whether bytes are the image, and are read back to the code that it was made of.
+fn holds(rt: &HostRuntime, made: &Made, image: &[u8], bytes: &[u8]) -> anyhow::Result<bool> {
+    let mut table = vec![in rt.alloc(); Instr::default(); MOST_INSTRUCTIONS]?;
+    let Figures {
+        cells,
+        depth,
+        count,
+    } = decode(bytes, table.as_mut_slice())?;
+    table.truncate(count as usize);
+    let code = made.code();
+    Ok(
+        bytes == image
+            && cells == code.cells
+            && depth == code.depth
+            && table.as_slice() == code.instructions,
+    )
+}
+
+// Fills a new file to the disk, and reads it back before it takes the place of the target.
+fn fill(
+    rt: &HostRuntime,
+    made: &Made,
+    image: &[u8],
+    mut file: File,
+    beside: &str,
+    target: &str,
+) -> anyhow::Result<()> {
+    file.write_all(image)?;
+    file.sync_all()?;
+    let bytes = fs::read(rt, beside)?;
+    if !holds(rt, made, image, bytes.as_slice())? {
+        return Err(anyhow!("what was written is read back otherwise"));
+    }
+    fs::rename(rt, beside, target)?;
+    Ok(())
+}
+
+// Whether both names stand for one file.
+fn is_same(rt: &HostRuntime, one: &str, other: &str) -> bool {
+    match (fs::canonicalize(rt, one), fs::canonicalize(rt, other)) {
+        (Ok(one), Ok(other)) => one == other,
+        _ => false,
+    }
+}
+
+// Whether the folder that a path names, if it names one, is there.
+fn has_folder(rt: &HostRuntime, target: &str) -> bool {
+    match target.rsplit_once('/') {
+        Some((folder, _)) if !folder.is_empty() => fs::metadata(rt, folder).is_ok(),
+        _ => true,
+    }
+}
+
+// Why a file is not to be written: only a plain one is replaced, that is not the source, and no folder is made.
+fn objection(rt: &HostRuntime, path: &str, target: &str) -> Option<&'static str> {
+    if is_same(rt, path, target) {
+        return Some("it is the source");
+    }
+    if !has_folder(rt, target) {
+        return Some("its folder is not there: make the folder first");
+    }
+    match fs::metadata(rt, target) {
+        Ok(found) if !found.is_file() => Some("it is no plain file"),
+        _ => None,
+    }
+}
+
+// The target is as it was, until a whole and right file takes its place. A file that stands beside it already is left alone.
+fn put(
+    rt: &HostRuntime,
+    made: &Made,
+    image: &[u8],
+    beside: &str,
+    target: &str,
+) -> anyhow::Result<()> {
+    let file = File::create_new(rt, beside)?;
+    if let Err(e) = fill(rt, made, image, file, beside, target) {
+        let _ = fs::remove_file(rt, beside);
+        return Err(e);
+    }
+    Ok(())
+}
+
+// Why the image is not written, if it is not.
+fn store(
+    rt: &HostRuntime,
+    made: &Made,
+    image: &[u8],
+    path: &str,
+    target: &str,
+) -> anyhow::Result<()> {
+    if let Some(why) = objection(rt, path, target) {
+        println!(rt; "{target}: cannot be written: {why}")?;
+        return Err(anyhow!("the image cannot be written"));
+    }
+    let beside = format!(in rt.alloc(); "{target}.part")?;
+    if let Err(e) = put(rt, made, image, beside.as_str(), target) {
+        println!(rt; "{target}: cannot be written by way of {beside}: {e}")?;
+        return Err(anyhow!("the image cannot be written"));
+    }
+    Ok(())
+}
+
+fn figures(rt: &HostRuntime, made: &Made, image: &[u8]) -> anyhow::Result<()> {
+    let source = made.source();
+    let mut tokens = Tokens::new(rt.alloc())?;
+    tokens.cut(source)?;
+    let code = made.code();
+    println!(rt; "source bytes {:>6}", source.len())?;
+    println!(rt; "tokens       {:>6}", tokens.as_slice().len())?;
+    println!(rt; "names        {:>6}", made.names().len())?;
+    println!(rt; "cells        {:>6}", code.cells)?;
+    println!(rt; "depth        {:>6}", code.depth)?;
+    println!(rt; "instructions {:>6}", code.instructions.len())?;
+    println!(rt; "image bytes  {:>6}", image.len())?;
+    Ok(())
+}
+
+pub fn compile(rt: &HostRuntime, path: &str, target: &str) -> anyhow::Result<()> {
+    let made = make(rt, path)?;
+    let image = made.image(rt.alloc())?;
+    store(rt, &made, image.as_slice(), path, target)?;
+    figures(rt, &made, image.as_slice())
+}

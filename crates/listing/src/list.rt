@@ -1,0 +1,48 @@
+// `spl list`: what an image holds, or a source with the code that its lines give.
+use crate::annotated::listing;
+use anyhow::anyhow;
+use image::fault::ImageFault;
+use image::read::decode;
+use image::write::{entry_size, size};
+use report::compiled::{MOST_INSTRUCTIONS, make};
+use report::instruction::shown;
+use report::source::load;
+use words::code::Figures;
+use words::instr::Instr;
+use words::refusal::Refusal;
+
+fn lines(rt: &HostRuntime, figures: Figures, bytes: usize, code: &[Instr]) -> anyhow::Result<()> {
+    let Figures {
+        cells,
+        depth,
+        count,
+    } = figures;
+    println!(rt; "cells {cells}, depth {depth}, instructions {count}, bytes {bytes}")?;
+    let mut offset = size(cells) + size(depth) + size(count);
+    for (index, i) in code.iter().enumerate() {
+        let text = shown(rt.alloc(), *i)?;
+        println!(rt; "{index:>5} {offset:>7}  {text}")?;
+        offset = offset.saturating_add(entry_size(*i).unwrap_or(0));
+    }
+    Ok(())
+}
+
+fn refused(rt: &HostRuntime, path: &str, fault: ImageFault) -> anyhow::Result<()> {
+    let Refusal { place, number } = fault.into();
+    println!(rt; "{path}: refused with {number} at {place}: {fault}")?;
+    Err(anyhow!("the image is refused"))
+}
+
+// A file is an image if its name says so or if its bytes are one; any other is a source.
+pub fn list(rt: &HostRuntime, path: &str) -> anyhow::Result<()> {
+    let bytes = load(rt, path)?;
+    let mut table = vec![in rt.alloc(); Instr::default(); MOST_INSTRUCTIONS]?;
+    match decode(bytes.as_slice(), table.as_mut_slice()) {
+        Ok(figures) => {
+            table.truncate(figures.count as usize);
+            lines(rt, figures, bytes.len(), table.as_slice())
+        }
+        Err(fault) if path.ends_with(".image") => refused(rt, path, fault),
+        Err(_) => listing(rt, &make(rt, path)?),
+    }
+}

@@ -1,0 +1,321 @@
+// `spl parse`: an outline of a source. The syntax list is gone over once; what a statement reads stands in it before the
+// statement's own entry.
+use report::fields::Problem;
+use report::mark::tell;
+use report::names::put_text;
+use report::source::{Spot, load};
+use std::alloc::Global;
+use std::fmt::Write;
+use syntax::node::Node;
+use syntax::workspace::Workspace;
+use text::name::Name;
+use text::search::{Named, find};
+use text::token::Kind;
+
+// A statement that holds others; of a CASE, how many of them have begun.
+#[derive(Clone, Copy)]
+enum Holder {
+    If,
+    While,
+    Do,
+    For,
+    Case(usize),
+}
+
+// A name, and where it is used.
+#[derive(Clone, Copy)]
+struct Use {
+    name: Name,
+    place: usize,
+}
+
+// The names used, each once, as they stand in the source.
+fn distinct(heap: Global, uses: &[Use]) -> Result<Vec<Name>, Problem> {
+    let mut sorted = Vec::from_slice(heap, uses)?;
+    sorted.sort_by_key(|used| used.place)?;
+    let mut names = Vec::new(heap);
+    for used in sorted.as_slice() {
+        if find(names.as_slice(), used.name.name()).is_none() {
+            names.push(used.name)?;
+        }
+    }
+    Ok(names)
+}
+
+fn put_names(out: &mut String, names: &[Name]) -> Result<(), Problem> {
+    if names.is_empty() {
+        out.push_str("none")?;
+    }
+    for (k, name) in names.iter().enumerate() {
+        if k > 0 {
+            out.push_str(", ")?;
+        }
+        put_text(out, name.name())?;
+    }
+    Ok(())
+}
+
+#[derive(Drop)]
+struct Outline<'a> {
+    heap: Global,
+    source: &'a [u8],
+    // the place that was shown last
+    spot: Spot,
+    // the statements that hold the next entry, from the outermost
+    around: Vec<Holder>,
+    uses: Vec<Use>,
+    // how many of the uses belong to what was printed
+    told: usize,
+    // where the condition begins that is being read
+    condition: Option<usize>,
+    // the field left of `:=`
+    field: Option<(u16, u16)>,
+    statements: usize,
+    deepest: usize,
+}
+
+impl Outline<'_> {
+    fn new(heap: Global, source: &[u8]) -> Outline<'_> {
+        Outline {
+            heap,
+            source,
+            spot: Spot::TOP,
+            around: Vec::new(heap),
+            uses: Vec::new(heap),
+            told: 0,
+            condition: None,
+            field: None,
+            statements: 0,
+            deepest: 0,
+        }
+    }
+
+    // The names read since the last line, behind what reads them.
+    fn put_reads(&mut self, out: &mut String) -> Result<(), Problem> {
+        let uses = self.uses.as_slice().get(self.told..).unwrap_or(&[]);
+        let names = distinct(self.heap, uses)?;
+        self.told = self.uses.len();
+        if names.is_empty() {
+            return Ok(());
+        }
+        out.push_str("  reads ")?;
+        put_names(out, names.as_slice())
+    }
+
+    // A line of the outline, with its number in the source where its place is known.
+    fn line(
+        &mut self,
+        rt: &HostRuntime,
+        depth: usize,
+        place: Option<usize>,
+        what: &str,
+    ) -> anyhow::Result<()> {
+        let indent = depth.saturating_mul(2);
+        let mut text = String::new(self.heap);
+        write!(text, "{:indent$}{what}", "")?;
+        self.put_reads(&mut text)?;
+        if let Some(place) = place {
+            self.spot = self.spot.onward(self.source, place);
+            println!(rt; "{:>5}  {text}", self.spot.line)?;
+        } else {
+            println!(rt; "       {text}")?;
+        }
+        Ok(())
+    }
+
+    // A line of the innermost statement that holds others.
+    fn held(&mut self, rt: &HostRuntime, place: Option<usize>, what: &str) -> anyhow::Result<()> {
+        let depth = self.around.len().saturating_sub(1);
+        self.line(rt, depth, place, what)
+    }
+
+    fn count(&mut self, depth: usize) {
+        self.statements = self.statements.saturating_add(1);
+        self.deepest = self.deepest.max(depth);
+    }
+
+    fn begin(&mut self, holder: Holder) -> anyhow::Result<()> {
+        self.around.push(holder)?;
+        let depth = self.around.len();
+        self.count(depth);
+        Ok(())
+    }
+
+    fn end(&mut self) -> anyhow::Result<()> {
+        let _ = self.around.pop();
+        Ok(())
+    }
+
+    fn read(&mut self, name: Name, place: usize) -> anyhow::Result<()> {
+        self.uses.push(Use { name, place })?;
+        Ok(())
+    }
+
+    // A name that a statement writes is used, but not read.
+    fn written(&mut self, name: Name, place: usize) -> anyhow::Result<()> {
+        self.uses.push(Use { name, place })?;
+        self.told = self.uses.len();
+        Ok(())
+    }
+
+    fn simple(
+        &mut self,
+        rt: &HostRuntime,
+        name: Name,
+        kind: Kind,
+        place: usize,
+    ) -> anyhow::Result<()> {
+        let mut what = String::new(self.heap);
+        write!(what, "{kind} ")?;
+        put_text(&mut what, name.name())?;
+        self.line(rt, 0, Some(place), what.as_str())
+    }
+
+    fn array(
+        &mut self,
+        rt: &HostRuntime,
+        name: Name,
+        kind: Kind,
+        bounds: (u16, u16),
+        place: usize,
+    ) -> anyhow::Result<()> {
+        let (low, high) = bounds;
+        let mut what = String::new(self.heap);
+        write!(what, "{kind} ARRAY ")?;
+        put_text(&mut what, name.name())?;
+        write!(what, "({low}:{high})")?;
+        self.line(rt, 0, Some(place), what.as_str())
+    }
+
+    fn assignment(
+        &mut self,
+        rt: &HostRuntime,
+        name: Name,
+        place: usize,
+        subscript: &str,
+    ) -> anyhow::Result<()> {
+        let mut what = String::new(self.heap);
+        put_text(&mut what, name.name())?;
+        what.push_str(subscript)?;
+        if let Some((first, second)) = self.field.take() {
+            // the rest of its word is kept, and so it is read
+            self.read(name, place)?;
+            write!(what, ".({first}:{second})")?;
+        }
+        what.push_str(" :=")?;
+        let depth = self.around.len();
+        self.count(depth.saturating_add(1));
+        self.line(rt, depth, Some(place), what.as_str())?;
+        self.written(name, place)
+    }
+
+    // Behind the condition of an IF or a WHILE.
+    fn then(&mut self, rt: &HostRuntime) -> anyhow::Result<()> {
+        let place = self.condition.take();
+        if let Some(Holder::While) = self.around.last() {
+            return self.held(rt, place, "WHILE");
+        }
+        self.held(rt, place, "IF")?;
+        self.held(rt, None, "THEN")
+    }
+
+    // Behind the condition of a DO.
+    fn until(&mut self, rt: &HostRuntime) -> anyhow::Result<()> {
+        let place = self.condition.take();
+        self.held(rt, place, "UNTIL")?;
+        self.end()
+    }
+
+    // Behind the limit of a FOR.
+    fn counted(
+        &mut self,
+        rt: &HostRuntime,
+        name: Name,
+        place: usize,
+        opened: usize,
+    ) -> anyhow::Result<()> {
+        let mut what = String::new(self.heap);
+        what.push_str("FOR ")?;
+        put_text(&mut what, name.name())?;
+        self.begin(Holder::For)?;
+        self.held(rt, Some(opened), what.as_str())?;
+        self.written(name, place)
+    }
+
+    // Before a statement of a CASE.
+    fn arm(&mut self, rt: &HostRuntime) -> anyhow::Result<()> {
+        let Some(Holder::Case(begun)) = self.around.last_mut() else {
+            return Ok(());
+        };
+        let number = *begun;
+        *begun = number.saturating_add(1);
+        let mut what = String::new(self.heap);
+        write!(what, "{number}:")?;
+        self.held(rt, None, what.as_str())
+    }
+
+    fn entry(&mut self, rt: &HostRuntime, node: Node) -> anyhow::Result<()> {
+        match node {
+            Node::Simple(name, kind, place) => self.simple(rt, name, kind, place),
+            Node::Array(name, kind, low, high, place, _) => {
+                self.array(rt, name, kind, (low, high), place)
+            }
+            Node::Load(name, place) | Node::Index(name, place, _) => self.read(name, place),
+            Node::Store(name, place, _) => self.assignment(rt, name, place, ""),
+            Node::StoreAt(name, place, _) => self.assignment(rt, name, place, "(subscript)"),
+            Node::Deposit(first, second, _) => {
+                self.field = Some((first, second));
+                Ok(())
+            }
+            Node::Test(place) => {
+                self.condition = self.condition.or(Some(place));
+                Ok(())
+            }
+            Node::If => self.begin(Holder::If),
+            Node::While => self.begin(Holder::While),
+            Node::Then => self.then(rt),
+            Node::Else => self.held(rt, None, "ELSE"),
+            Node::Do => {
+                self.begin(Holder::Do)?;
+                self.held(rt, None, "DO")
+            }
+            Node::Done => self.until(rt),
+            Node::For(name, place, opened) => self.counted(rt, name, place, opened),
+            Node::Case(place) => {
+                self.begin(Holder::Case(0))?;
+                self.held(rt, Some(place), "CASE")
+            }
+            Node::Arm => self.arm(rt),
+            Node::Fi | Node::Loop | Node::Drop | Node::Esac => self.end(),
+            _ => Ok(()),
+        }
+    }
+
+    // How many statements there are, how deep they stand, and the names that they use.
+    fn summary(&self, rt: &HostRuntime) -> anyhow::Result<()> {
+        let names = distinct(self.heap, self.uses.as_slice())?;
+        let mut text = String::new(self.heap);
+        put_names(&mut text, names.as_slice())?;
+        println!(rt; "statements {}, deepest {}", self.statements, self.deepest)?;
+        println!(rt; "names used: {text}")?;
+        Ok(())
+    }
+}
+
+fn lines(rt: &HostRuntime, source: &[u8], nodes: &[Node]) -> anyhow::Result<()> {
+    let mut outline = Outline::new(rt.alloc(), source);
+    println!(rt; " line  outline")?;
+    for node in nodes {
+        outline.entry(rt, *node)?;
+    }
+    outline.summary(rt)
+}
+
+pub fn parse(rt: &HostRuntime, path: &str) -> anyhow::Result<()> {
+    let source = load(rt, path)?;
+    let mut work = Workspace::new(rt.alloc())?;
+    match work.read(source.as_slice()) {
+        Ok(()) => lines(rt, source.as_slice(), work.nodes()),
+        Err(fault) => tell(rt, path, source.as_slice(), fault),
+    }
+}

@@ -1,0 +1,49 @@
+// `spl tokens`: a source cut into tokens.
+use report::mark::tell;
+use report::source::{Spot, load};
+use report::tokens::place_of;
+use text::reserved::keyword;
+use text::token::{Kind, Token};
+use text::whole::Tokens;
+
+// What kind of token it is, and its text and value.
+fn describe(rt: &HostRuntime, t: &Token<'_>) -> anyhow::Result<()> {
+    match t {
+        Token::Word(w, _) => {
+            let name = std::str::from_utf8(w)?;
+            let kind = if keyword(w).is_some() {
+                "reserved"
+            } else {
+                "name"
+            };
+            println!(rt; "{kind:<8}  {name}")?;
+        }
+        Token::Number(w, kind, value, _) => {
+            let digits = std::str::from_utf8(w)?;
+            println!(rt; "{kind:<8}  {digits} = {value}")?;
+        }
+        Token::Symbol(s, _) => println!(rt; "symbol    {s}")?,
+    }
+    Ok(())
+}
+
+fn lines(rt: &HostRuntime, source: &[u8], tokens: &[Token<'_>]) -> anyhow::Result<()> {
+    let mut spot = Spot::TOP;
+    println!(rt; " line  col  place  kind      text")?;
+    for t in tokens {
+        spot = spot.onward(source, place_of(t));
+        print!(rt; "{:>5} {:>4} {:>6}  ", spot.line, spot.column(), spot.place)?;
+        describe(rt, t)?;
+    }
+    println!(rt; "{} tokens", tokens.len())?;
+    Ok(())
+}
+
+pub fn tokens(rt: &HostRuntime, path: &str) -> anyhow::Result<()> {
+    let source = load(rt, path)?;
+    let mut list = Tokens::new(rt.alloc())?;
+    match list.cut(source.as_slice()) {
+        Ok(()) => lines(rt, source.as_slice(), list.as_slice()),
+        Err(fault) => tell(rt, path, source.as_slice(), fault),
+    }
+}

@@ -1,0 +1,90 @@
+// `spl verify`: whether an image is the one of a source; if not, where they part.
+use anyhow::anyhow;
+use image::fault::ImageFault;
+use image::read::decode;
+use report::compiled::{MOST_INSTRUCTIONS, Made, make};
+use report::instruction::shown;
+use report::source::load;
+use words::code::Code;
+use words::instr::Instr;
+use words::refusal::Refusal;
+
+// A figure that differs.
+fn figure(rt: &HostRuntime, what: &str, source: usize, image: usize) -> anyhow::Result<()> {
+    if source != image {
+        println!(rt; "{what}: {source} of the source, {image} of the image")?;
+    }
+    Ok(())
+}
+
+// An instruction, or that there is none.
+fn put(rt: &HostRuntime, whose: &str, i: Option<&Instr>) -> anyhow::Result<()> {
+    match i {
+        Some(i) => {
+            let text = shown(rt.alloc(), *i)?;
+            println!(rt; "  {whose}  {text}")?;
+        }
+        None => println!(rt; "  {whose}  none")?,
+    }
+    Ok(())
+}
+
+// The first index at which two codes are not alike.
+fn parting(source: &[Instr], image: &[Instr]) -> Option<usize> {
+    let shorter = source.len().min(image.len());
+    source
+        .iter()
+        .zip(image.iter())
+        .position(|(one, other)| one != other)
+        .or((source.len() != image.len()).then_some(shorter))
+}
+
+fn differences(rt: &HostRuntime, source: Code<'_>, image: Code<'_>) -> anyhow::Result<()> {
+    figure(rt, "cells", source.cells as usize, image.cells as usize)?;
+    figure(rt, "depth", source.depth as usize, image.depth as usize)?;
+    let here = source.instructions;
+    let there = image.instructions;
+    figure(rt, "instructions", here.len(), there.len())?;
+    if let Some(index) = parting(here, there) {
+        println!(rt; "they part at instruction {index}:")?;
+        put(rt, "source", here.get(index))?;
+        put(rt, "image ", there.get(index))?;
+    }
+    Ok(())
+}
+
+fn refused(rt: &HostRuntime, fault: ImageFault) -> anyhow::Result<()> {
+    let Refusal { place, number } = fault.into();
+    println!(rt; "it is refused with {number} at {place}: {fault}")?;
+    Ok(())
+}
+
+// What the bytes hold that are not the image.
+fn tell(rt: &HostRuntime, made: &Made, bytes: &[u8]) -> anyhow::Result<()> {
+    let mut table = vec![in rt.alloc(); Instr::default(); MOST_INSTRUCTIONS]?;
+    match decode(bytes, table.as_mut_slice()) {
+        Ok(figures) => {
+            table.truncate(figures.count as usize);
+            let image = Code {
+                cells: figures.cells,
+                depth: figures.depth,
+                instructions: table.as_slice(),
+            };
+            differences(rt, made.code(), image)
+        }
+        Err(fault) => refused(rt, fault),
+    }
+}
+
+pub fn verify(rt: &HostRuntime, path: &str, target: &str) -> anyhow::Result<()> {
+    let made = make(rt, path)?;
+    let image = made.image(rt.alloc())?;
+    let bytes = load(rt, target)?;
+    if bytes.as_slice() == image.as_slice() {
+        println!(rt; "{target} is the image of {path}")?;
+        return Ok(());
+    }
+    println!(rt; "{target} is not the image of {path}")?;
+    tell(rt, &made, bytes.as_slice())?;
+    Err(anyhow!("the image is another"))
+}

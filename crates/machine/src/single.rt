@@ -1,0 +1,61 @@
+// The single run: it starts, resumes once, and leaves every stack word zero.
+ghost use Rattle.std.specs.Prelude.{◌≡◌, length, replicate};
+ghost use Rattle.words.specs.Refusals.{told};
+ghost use Rattle.machine.specs.Faults.{refusal_of};
+ghost use Rattle.machine.specs.Sessions.{registers, single as single_of, single_leaves};
+
+use crate::fault::SessionFault;
+use crate::lent::Lent;
+use crate::session::Session;
+use crate::vm::Vm;
+use words::code::Code;
+use words::store::Store;
+
+// Stack words that are zeroed when the guard goes out of scope.
+struct Wipe<'a> {
+    words: &'a mut [u16],
+}
+
+impl Drop for Wipe<'_> {
+    fn drop(self)
+        ensures { self.exit.0.now ≡ replicate (length self.entry.words.now) 0 }
+    {
+        self.words.fill(0);
+        let Wipe { words: _ } = self;
+    }
+}
+
+fn once<S: Store>(
+    code: Code<'_>,
+    stack: &mut [u16],
+    store: &mut S,
+    limit: u64,
+) -> Result<Vm, SessionFault>
+    ensures answer { told refusal_of result ≡ registers (single_of code.entry limit stack.old (S.Store.words store.old)) }
+    ensures left { S.Store.words store.new ≡ single_leaves code.entry limit stack.old (S.Store.words store.old) }
+    ensures keeps { S.Store.keeps store.old store.new }
+{
+    let mut lent = Lent {
+        code: code.instructions,
+        stack,
+        store,
+    };
+    let mut session = Session::start(code.cells, code.depth, &lent)?;
+    session.resume(&mut lent, limit)
+}
+
+// Starts and resumes once. The stack words are all zero afterwards, on every way out.
+pub fn single<S: Store>(
+    code: Code<'_>,
+    stack: &mut [u16],
+    store: &mut S,
+    limit: u64,
+) -> Result<Vm, SessionFault>
+    ensures cleared { stack.new ≡ replicate (length stack.old) 0 }
+    ensures answer { told refusal_of result ≡ registers (single_of code.entry limit stack.old (S.Store.words store.old)) }
+    ensures left { S.Store.words store.new ≡ single_leaves code.entry limit stack.old (S.Store.words store.old) }
+    ensures keeps { S.Store.keeps store.old store.new }
+{
+    let guard = Wipe { words: stack };
+    once(code, guard.words, store, limit)
+}

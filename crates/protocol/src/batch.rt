@@ -1,0 +1,292 @@
+// `spl batch`: one answer line to each request line; and `spl check`: a table of them.
+use crate::sessions::Desk;
+use anyhow::anyhow;
+use code::compiler::Compiler;
+use image::read::decode;
+use image::write::encode;
+use report::compiled::{MOST_BYTES, MOST_INSTRUCTIONS};
+use report::fields::{Problem, hex, instrs, miscount, number, put_words, word, words};
+use report::names::put_text;
+use report::source::load;
+use std::alloc::{AllocError, Global};
+use std::fmt::Write;
+use std::io::Read;
+use syntax::workspace::Workspace;
+use text::token::{Kind, Token};
+use text::whole::Tokens;
+use words::code::{Code, Figures};
+use words::instr::Instr;
+use words::refusal::Refusal;
+
+pub(crate) fn refused(out: &mut String, fault: impl Into<Refusal>) -> Result<(), Problem> {
+    let Refusal { place, number } = fault.into();
+    write!(out, "no {number} {place}")?;
+    Ok(())
+}
+
+// These two print forms of the protocol, which no type of its own has.
+fn put_hex(out: &mut String, bytes: &[u8]) -> Result<(), Problem> {
+    for b in bytes {
+        write!(out, "{b:02x}")?;
+    }
+    Ok(())
+}
+
+fn put_instrs(out: &mut String, code: &[Instr]) -> Result<(), Problem> {
+    if code.is_empty() {
+        out.push('-')?;
+    }
+    for (k, i) in code.iter().enumerate() {
+        if k > 0 {
+            out.push(';')?;
+        }
+        write!(out, "{},{},{}", i.number, i.a, i.b)?;
+    }
+    Ok(())
+}
+
+// A table of `n` entries: the first ones of a list that has grown to the longest that was asked for. What they hold does
+// not matter, since no answer shows an entry that was not written.
+fn lent(table: &mut Vec<Instr>, n: usize) -> Result<&mut [Instr], Problem> {
+    if table.len() < n {
+        table.resize(n, Instr::default())?;
+    }
+    Ok(&mut table.as_mut_slice()[..n])
+}
+
+fn put_code(out: &mut String, figures: Figures, table: &[Instr]) -> Result<(), Problem> {
+    write!(out, "ok {} {} ", figures.cells, figures.depth)?;
+    put_instrs(out, table.get(..figures.count as usize).unwrap_or(table))
+}
+
+// A token as the batch protocol has it: place, kind and text. By hand: a form of the protocol, which the type of tokens does
+// not own.
+fn put_token(out: &mut String, t: &Token<'_>) -> Result<(), Problem> {
+    match t {
+        Token::Word(w, place) => {
+            write!(out, " {place}:w:")?;
+            put_text(out, w)
+        }
+        Token::Number(w, Kind::Integer, _, place) => {
+            write!(out, " {place}:n:")?;
+            put_text(out, w)
+        }
+        Token::Number(w, Kind::Logical, _, place) => {
+            write!(out, " {place}:o:")?;
+            put_text(out, w)
+        }
+        Token::Symbol(s, place) => {
+            write!(out, " {place}:s:{s}")?;
+            Ok(())
+        }
+    }
+}
+
+// Memory that serves line after line.
+#[derive(Drop)]
+pub struct Bench {
+    heap: Global,
+    bytes: Vec<u8>,
+    code: Vec<Instr>,
+    table: Vec<Instr>,
+    reader: Workspace,
+    compiler: Compiler,
+    desk: Desk,
+}
+
+impl Bench {
+    fn new(heap: Global) -> Result<Bench, AllocError> {
+        Ok(Bench {
+            heap,
+            bytes: Vec::new(heap),
+            code: Vec::new(heap),
+            table: Vec::new(heap),
+            reader: Workspace::new(heap)?,
+            compiler: Compiler::new(heap)?,
+            desk: Desk::new(heap),
+        })
+    }
+
+    // imagein TABLE HEX
+    fn image_in(&mut self, fields: &[&[u8]], out: &mut String) -> Result<(), Problem> {
+        let [table, bytes] = fields else {
+            return Err(miscount(fields.len(), 2));
+        };
+        // a larger table is answered alike
+        let room = number(table)?.min(MOST_INSTRUCTIONS);
+        hex(bytes, &mut self.bytes)?;
+        let table = lent(&mut self.table, room)?;
+        match decode(self.bytes.as_slice(), table) {
+            Ok(figures) => put_code(out, figures, table),
+            Err(fault) => refused(out, fault),
+        }
+    }
+
+    // imageout ROOM CELLS DEPTH INSTRS
+    fn image_out(&mut self, fields: &[&[u8]], out: &mut String) -> Result<(), Problem> {
+        let [room, cells, depth, code] = fields else {
+            return Err(miscount(fields.len(), 4));
+        };
+        let room = number(room)?.min(MOST_BYTES);
+        let cells = word(cells)?;
+        let depth = word(depth)?;
+        instrs(code, &mut self.code)?;
+        let code = Code {
+            cells,
+            depth,
+            instructions: self.code.as_slice(),
+        };
+        let mut bytes = vec![in self.heap; 0u8; room]?;
+        match encode(code, bytes.as_mut_slice()) {
+            Ok(n) => {
+                out.push_str("ok ")?;
+                bytes.truncate(n);
+                put_hex(out, bytes.as_slice())
+            }
+            Err(fault) => refused(out, fault),
+        }
+    }
+
+    // tokens HEX
+    fn tokens(&mut self, fields: &[&[u8]], out: &mut String) -> Result<(), Problem> {
+        let [bytes] = fields else {
+            return Err(miscount(fields.len(), 1));
+        };
+        hex(bytes, &mut self.bytes)?;
+        let mut list = Tokens::new(self.heap)?;
+        match list.cut(self.bytes.as_slice()) {
+            Ok(()) => {
+                out.push_str("ok")?;
+                for t in list.as_slice() {
+                    put_token(out, t)?;
+                }
+                Ok(())
+            }
+            Err(fault) => refused(out, fault),
+        }
+    }
+
+    // parse HEX
+    fn parse(&mut self, fields: &[&[u8]], out: &mut String) -> Result<(), Problem> {
+        let [bytes] = fields else {
+            return Err(miscount(fields.len(), 1));
+        };
+        hex(bytes, &mut self.bytes)?;
+        match self.reader.read(self.bytes.as_slice()) {
+            Ok(()) => {
+                write!(out, "ok {}", self.reader.nodes().len())?;
+                Ok(())
+            }
+            Err(fault) => refused(out, fault),
+        }
+    }
+
+    // compile TABLE HEX
+    fn compile(&mut self, fields: &[&[u8]], out: &mut String) -> Result<(), Problem> {
+        let [table, bytes] = fields else {
+            return Err(miscount(fields.len(), 2));
+        };
+        let room = number(table)?.min(MOST_INSTRUCTIONS);
+        hex(bytes, &mut self.bytes)?;
+        let table = lent(&mut self.table, room)?;
+        match self.compiler.compile(self.bytes.as_slice(), table) {
+            Ok(figures) => put_code(out, figures, table),
+            Err(fault) => refused(out, fault),
+        }
+    }
+
+    fn request(&mut self, line: &[u8], out: &mut String) -> Result<(), Problem> {
+        let mut fields = Vec::new(self.heap);
+        for field in line.split(|b| *b == b' ') {
+            fields.push(field)?;
+        }
+        match fields.as_slice() {
+            [b"imagein", fields @ ..] => self.image_in(fields, out),
+            [b"imageout", fields @ ..] => self.image_out(fields, out),
+            [b"tokens", fields @ ..] => self.tokens(fields, out),
+            [b"parse", fields @ ..] => self.parse(fields, out),
+            [b"compile", fields @ ..] => self.compile(fields, out),
+            [b"session", fields @ ..] => self.desk.session(fields, out),
+            [b"single", fields @ ..] => self.desk.single(fields, out),
+            _ => Err(Problem::NotRequest("no such request")),
+        }
+    }
+
+    // What is answered `err` leaves nothing else of its line.
+    fn answer(&mut self, line: &[u8], out: &mut String) -> Result<(), Problem> {
+        let mut text = String::new(self.heap);
+        match self.request(line, &mut text) {
+            Ok(()) => out.push_str(text.as_str())?,
+            Err(problem) => write!(out, "err {problem}")?,
+        }
+        out.push('\n')?;
+        Ok(())
+    }
+
+    // Whether a line `REQUEST -> ANSWER` of a table holds; a difference is printed, with the number of the line.
+    fn holds(&mut self, rt: &HostRuntime, number: usize, line: &[u8]) -> anyhow::Result<bool> {
+        let arrow = b" -> ";
+        let Some(i) = line.windows(4).position(|w| w.starts_with(arrow)) else {
+            println!(rt; "line {number} has no ` -> `")?;
+            return Ok(false);
+        };
+        let (request, answer) = line.split_at(i);
+        let mut out = String::new(self.heap);
+        self.answer(request, &mut out)?;
+        if out.as_bytes().strip_suffix(b"\n") == answer.strip_prefix(arrow) {
+            return Ok(true);
+        }
+        let request = String::from_utf8_lossy(self.heap, line)?;
+        println!(rt; "line {number}: {request}")?;
+        print!(rt; "  but was answered {out}")?;
+        Ok(false)
+    }
+}
+
+fn is_feed(b: &u8) -> bool {
+    *b == b'\n'
+}
+
+fn without_feed(line: &[u8]) -> &[u8] {
+    line.strip_suffix(b"\n").unwrap_or(line)
+}
+
+// `spl check`: a table of requests with their answers; lines that begin with `#`, and empty ones, are passed over.
+pub fn check(rt: &HostRuntime, path: &str) -> anyhow::Result<()> {
+    let input = load(rt, path)?;
+    let mut bench = Bench::new(rt.alloc())?;
+    let mut count = 0u64;
+    let mut wrong = 0u64;
+    for (before, line) in input.as_slice().split_inclusive(is_feed).enumerate() {
+        let line = without_feed(line);
+        if line.is_empty() || line.starts_with(b"#") {
+            continue;
+        }
+        count = count.saturating_add(1);
+        if !bench.holds(rt, before.saturating_add(1), line)? {
+            wrong = wrong.saturating_add(1);
+        }
+    }
+    println!(rt; "{path}: {count} requests, {wrong} differences")?;
+    if wrong > 0 {
+        return Err(anyhow!("some answers differ"));
+    }
+    Ok(())
+}
+
+pub fn batch(rt: &HostRuntime) -> anyhow::Result<()> {
+    let heap = rt.alloc();
+    let mut input = Vec::new(heap);
+    rt.stdin().read_to_end(&mut input)?;
+    let mut bench = Bench::new(heap)?;
+    let mut out = String::new(heap);
+    for line in input.as_slice().split_inclusive(is_feed) {
+        bench.answer(without_feed(line), &mut out)?;
+        if out.len() > 65536 {
+            rt.print(out.as_str())?;
+            out.clear();
+        }
+    }
+    rt.print(out.as_str())?;
+    Ok(())
+}

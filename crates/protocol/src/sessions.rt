@@ -1,0 +1,262 @@
+// `session` and `single`: calls on the machine, over each of the three stores.
+use crate::batch::refused;
+use machine::call::{Answer, Call, Exchange};
+use machine::fault::{CallFault, SessionFault};
+use machine::lent::Lent;
+use machine::session::Session;
+use machine::single::single;
+use machine::vm::Vm;
+use report::fields::{Problem, hex, instrs, miscount, number, put_words, word, words};
+use std::alloc::Global;
+use std::fmt::Write;
+use words::code::Code;
+use words::instr::Instr;
+use words::refusal::Refusal;
+use words::store::Store;
+use words::store::bytes::Bytes;
+use words::store::joined::Joined;
+use words::store::lent::Words;
+
+// No depth is larger, so that longer stacks of zeros are answered alike.
+const MOST_STACKED: usize = 65535;
+
+// What a request's store is made of.
+#[derive(Clone, Copy, PartialEq, Eq, Debug)]
+enum Shape {
+    Words,
+    Bytes,
+    Joined,
+}
+
+#[derive(Clone, Copy, PartialEq, Eq, Debug)]
+enum Task {
+    // the calls, one after another
+    Calls,
+    // with a limit of steps
+    Single(u64),
+}
+
+// rN, lN or p
+fn call(text: &[u8]) -> Result<Call, Problem> {
+    match text {
+        [b'r', limit @ ..] => Ok(Call::Resume(number(limit)? as u64)),
+        [b'l', cell @ ..] => Ok(Call::Look(word(cell)?)),
+        [b'p'] => Ok(Call::Report),
+        _ => Err(Problem::NotRequest("no such call")),
+    }
+}
+
+// Calls joined by `;`, `-` for none; they take the place of those in `out`.
+fn exchanges(text: &[u8], out: &mut Vec<Exchange>) -> Result<(), Problem> {
+    out.clear();
+    if let [b'-'] = text {
+        return Ok(());
+    }
+    for one in text.split(|b| *b == b';') {
+        out.push(Exchange::of(call(one)?))?;
+    }
+    Ok(())
+}
+
+fn put_bytes(out: &mut String, list: &[u8]) -> Result<(), Problem> {
+    out.push('b')?;
+    if list.is_empty() {
+        out.push('-')?;
+    }
+    for b in list {
+        write!(out, "{b:02x}")?;
+    }
+    Ok(())
+}
+
+fn put_registers(out: &mut String, vm: Vm) -> Result<(), Problem> {
+    write!(
+        out,
+        "s {} {} {} {} ",
+        vm.place, vm.height, vm.steps, vm.writes
+    )?;
+    match vm.ending {
+        Some(ending) => write!(out, "{}", u8::from(ending))?,
+        None => out.push('-')?,
+    }
+    Ok(())
+}
+
+fn put_answer(out: &mut String, answer: Result<Answer, CallFault>) -> Result<(), Problem> {
+    match answer {
+        Ok(Answer::Registers(vm)) => put_registers(out, vm),
+        Ok(Answer::Word(w)) => {
+            write!(out, "w {w}")?;
+            Ok(())
+        }
+        Err(fault) => refused(out, fault),
+    }
+}
+
+fn put_answers(out: &mut String, exchanges: &[Exchange]) -> Result<(), Problem> {
+    for (k, exchange) in exchanges.iter().enumerate() {
+        if k > 0 {
+            out.push('|')?;
+        }
+        put_answer(out, exchange.answer)?;
+    }
+    Ok(())
+}
+
+// Does the task over one store. A refusal found before the first call is all that there is to answer.
+fn work<S: Store>(
+    task: Task,
+    code: Code<'_>,
+    stack: &mut [u16],
+    store: &mut S,
+    exchanges: &mut [Exchange],
+) -> Result<(), SessionFault> {
+    if let Task::Single(limit) = task {
+        let vm = single(code, stack, store, limit)?;
+        exchanges.fill(Exchange {
+            call: Call::Resume(limit),
+            answer: Ok(Answer::Registers(vm)),
+        });
+        return Ok(());
+    }
+    let mut lent = Lent {
+        code: code.instructions,
+        stack,
+        store,
+    };
+    let mut session = Session::start(code.cells, code.depth, &lent)?;
+    session.play(&mut lent, exchanges);
+    Ok(())
+}
+
+// What a request brings, each call with its answer. The memory serves line after line.
+#[derive(Drop)]
+pub struct Desk {
+    code: Vec<Instr>,
+    stack: Vec<u16>,
+    shape: Shape,
+    words: Vec<u16>,
+    bytes: Vec<u8>,
+    exchanges: Vec<Exchange>,
+}
+
+impl Desk {
+    pub fn new(heap: Global) -> Desk {
+        Desk {
+            code: Vec::new(heap),
+            stack: Vec::new(heap),
+            shape: Shape::Words,
+            words: Vec::new(heap),
+            bytes: Vec::new(heap),
+            exchanges: Vec::new(heap),
+        }
+    }
+
+    // Words; `b` and bytes; or words, `+`, `b` and bytes.
+    fn read_store(&mut self, text: &[u8]) -> Result<(), Problem> {
+        if let [b'b', bytes @ ..] = text {
+            self.shape = Shape::Bytes;
+            return hex(bytes, &mut self.bytes);
+        }
+        let mut parts = text.splitn(2, |b| *b == b'+');
+        words(parts.next().unwrap_or(text), &mut self.words)?;
+        match parts.next() {
+            None => {
+                self.shape = Shape::Words;
+                Ok(())
+            }
+            Some([b'b', bytes @ ..]) => {
+                self.shape = Shape::Joined;
+                hex(bytes, &mut self.bytes)
+            }
+            Some(_) => Err(Problem::NotRequest("a store has no such part")),
+        }
+    }
+
+    // In the form in which it was written.
+    fn put_store(&self, out: &mut String) -> Result<(), Problem> {
+        match self.shape {
+            Shape::Words => put_words(out, self.words.as_slice()),
+            Shape::Bytes => put_bytes(out, self.bytes.as_slice()),
+            Shape::Joined => {
+                put_words(out, self.words.as_slice())?;
+                out.push('+')?;
+                put_bytes(out, self.bytes.as_slice())
+            }
+        }
+    }
+
+    // Does the task over the store that was read.
+    fn make(&mut self, task: Task, cells: u16, depth: u16) -> Result<(), SessionFault> {
+        let code = Code {
+            cells,
+            depth,
+            instructions: self.code.as_slice(),
+        };
+        let stack = self.stack.as_mut_slice();
+        let exchanges = self.exchanges.as_mut_slice();
+        let mut words = Words {
+            cells: self.words.as_mut_slice(),
+        };
+        let mut bytes = Bytes {
+            cells: self.bytes.as_mut_slice(),
+        };
+        match self.shape {
+            Shape::Words => work(task, code, stack, &mut words, exchanges),
+            Shape::Bytes => work(task, code, stack, &mut bytes, exchanges),
+            Shape::Joined => {
+                let mut joined = Joined {
+                    first: &mut words,
+                    second: &mut bytes,
+                };
+                work(task, code, stack, &mut joined, exchanges)
+            }
+        }
+    }
+
+    // session CELLS DEPTH STACKLEN STORE CALLS INSTRS
+    pub fn session(&mut self, fields: &[&[u8]], out: &mut String) -> Result<(), Problem> {
+        let [cells, depth, length, store, list, code] = fields else {
+            return Err(miscount(fields.len(), 6));
+        };
+        let cells = word(cells)?;
+        let depth = word(depth)?;
+        let length = number(length)?.min(MOST_STACKED);
+        self.read_store(store)?;
+        exchanges(list, &mut self.exchanges)?;
+        instrs(code, &mut self.code)?;
+        self.stack.clear();
+        self.stack.resize(length, 0)?;
+        match self.make(Task::Calls, cells, depth) {
+            Ok(()) => {
+                put_answers(out, self.exchanges.as_slice())?;
+                out.push_str(" # ")?;
+                self.put_store(out)
+            }
+            Err(fault) => refused(out, fault),
+        }
+    }
+
+    // single LIMIT CELLS DEPTH STACK STORE INSTRS
+    pub fn single(&mut self, fields: &[&[u8]], out: &mut String) -> Result<(), Problem> {
+        let [limit, cells, depth, stack, store, code] = fields else {
+            return Err(miscount(fields.len(), 6));
+        };
+        let limit = number(limit)? as u64;
+        let cells = word(cells)?;
+        let depth = word(depth)?;
+        words(stack, &mut self.stack)?;
+        self.read_store(store)?;
+        instrs(code, &mut self.code)?;
+        self.exchanges.clear();
+        self.exchanges.push(Exchange::of(Call::Resume(limit)))?;
+        match self.make(Task::Single(limit), cells, depth) {
+            Ok(()) => put_answers(out, self.exchanges.as_slice())?,
+            Err(fault) => refused(out, fault)?,
+        }
+        out.push_str(" # ")?;
+        self.put_store(out)?;
+        out.push_str(" # ")?;
+        put_words(out, self.stack.as_slice())
+    }
+}

@@ -1,0 +1,12 @@
+// What the commands of the program share: sources and places in them, refusals as they are told, a compiled source, the line of each
+// instruction, and the fields of a line.
+#![tactic(auto)]
+
+pub mod compiled;
+pub mod fields;
+pub mod instruction;
+pub mod line_map;
+pub mod mark;
+pub mod names;
+pub mod source;
+pub mod tokens;

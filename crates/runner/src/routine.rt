@@ -1,0 +1,180 @@
+// A routine to be run: a source that was compiled, or the code that an image holds.
+use anyhow::anyhow;
+use arith::integer::value;
+use arith::stop::Stop;
+use checks::entry::{NameEntry, Sort};
+use image::fault::ImageFault;
+use image::read::decode;
+use machine::ending::Ending;
+use machine::vm::Vm;
+use report::compiled::{MOST_INSTRUCTIONS, Made, make};
+use report::line_map::line_map;
+use report::mark;
+use report::names::{owner, put_text};
+use report::source::{Lines, load};
+use std::alloc::Global;
+use std::fmt::Write;
+use text::search::Named;
+use text::token::Kind;
+use words::code::{Code, Figures};
+use words::instr::Instr;
+use words::op::Op;
+use words::refusal::Refusal;
+
+#[derive(Drop)]
+pub struct Routine {
+    // where there is none, the figures and the table are those of an image
+    made: Option<Made>,
+    figures: Figures,
+    table: Vec<Instr>,
+}
+
+// The cell that a name has, as a source writes it.
+fn put_cell(out: &mut String, entry: &NameEntry, cell: u16) -> anyhow::Result<()> {
+    put_text(out, entry.name())?;
+    if entry.sort == Sort::Array {
+        let place = (cell as u32).saturating_sub(entry.cell);
+        write!(out, "({place})")?;
+    }
+    Ok(())
+}
+
+// The first cell of the array that an instruction has a subscript of. CHK does not name it: STX does, the next one in the code,
+// since the value between them assigns nothing.
+fn subscripted(code: &[Instr]) -> Option<u16> {
+    let first = code.first()?;
+    if let Ok(Op::Ldx) = Op::try_from(first.number) {
+        return Some(first.a);
+    }
+    let stx = code
+        .iter()
+        .find(|i| matches!(Op::try_from(i.number), Ok(Op::Stx)))?;
+    Some(stx.a)
+}
+
+impl Routine {
+    pub fn code(&self) -> Code<'_> {
+        match &self.made {
+            Some(made) => made.code(),
+            None => Code {
+                cells: self.figures.cells,
+                depth: self.figures.depth,
+                instructions: self.table.as_slice(),
+            },
+        }
+    }
+
+    // The source, if the routine is one.
+    pub fn source(&self) -> Option<&[u8]> {
+        match &self.made {
+            Some(made) => Some(made.source()),
+            None => None,
+        }
+    }
+
+    fn names(&self) -> &[NameEntry] {
+        match &self.made {
+            Some(made) => made.names(),
+            None => &[],
+        }
+    }
+
+    // A cell by its name, where it has one.
+    pub fn name(&self, heap: Global, cell: u16) -> anyhow::Result<String> {
+        let mut text = String::new(heap);
+        match owner(self.names(), cell) {
+            Some(entry) => put_cell(&mut text, entry, cell)?,
+            None => write!(text, "cell {cell}")?,
+        }
+        Ok(text)
+    }
+
+    // The word of a cell as its type reads it.
+    pub fn value(&self, cell: u16, word: u16) -> i32 {
+        match owner(self.names(), cell) {
+            Some(entry) if entry.kind == Kind::Integer => value(word),
+            _ => word as i32,
+        }
+    }
+
+    // The line of the instruction at which the run stands, and of a bad subscript the array.
+    fn tell_line(&self, rt: &HostRuntime, made: &Made, vm: Vm) -> anyhow::Result<()> {
+        let heap = rt.alloc();
+        let place = vm.place as usize;
+        let lines = Lines::of(heap, made.source())?;
+        let line_of = line_map(heap, made, &lines)?;
+        let Some(line) = line_of.as_slice().get(place) else {
+            return Ok(());
+        };
+        let text = mark::shown(heap, lines.from(*line))?;
+        println!(rt; "{line:>5}  {text}")?;
+        if vm.ending != Some(Ending::Stopped(Stop::BadIndex)) {
+            return Ok(());
+        }
+        let rest = made.code().instructions.get(place..).unwrap_or(&[]);
+        if let Some(entry) = subscripted(rest).and_then(|cell| owner(made.names(), cell)) {
+            let name = std::str::from_utf8(entry.name())?;
+            println!(rt; "the array is {name}(0:{})", entry.cells.saturating_sub(1))?;
+        }
+        Ok(())
+    }
+
+    // How a run stands that has ended, or that a limit has stopped.
+    pub fn tell_end(&self, rt: &HostRuntime, vm: Vm) -> anyhow::Result<()> {
+        let place = vm.place;
+        match vm.ending {
+            Some(ending) => {
+                println!(rt;
+                    "ending {} at instruction {place}: {ending}",
+                    u8::from(ending)
+                )?;
+            }
+            None => println!(rt;
+                "no ending: the limit of steps came first, before instruction {place}"
+            )?,
+        }
+        if let Some(made) = &self.made {
+            self.tell_line(rt, made, vm)?;
+        }
+        println!(rt;
+            "steps {}, writes {}, words stacked {}",
+            vm.steps, vm.writes, vm.height
+        )?;
+        Ok(())
+    }
+}
+
+fn refused(rt: &HostRuntime, path: &str, fault: ImageFault) -> anyhow::Result<Routine> {
+    let Refusal { place, number } = fault.into();
+    println!(rt; "{path}: refused with {number} at {place}: {fault}")?;
+    Err(anyhow!("the image is refused"))
+}
+
+// A file is an image if its name says so or if its bytes are one; any other is a source.
+pub fn open(rt: &HostRuntime, path: &str) -> anyhow::Result<Routine> {
+    let bytes = load(rt, path)?;
+    let mut table = vec![in rt.alloc(); Instr::default(); MOST_INSTRUCTIONS]?;
+    match decode(bytes.as_slice(), table.as_mut_slice()) {
+        Ok(figures) => {
+            table.truncate(figures.count as usize);
+            Ok(Routine {
+                made: None,
+                figures,
+                table,
+            })
+        }
+        Err(fault) if path.ends_with(".image") => refused(rt, path, fault),
+        Err(_) => {
+            let figures = Figures {
+                cells: 0,
+                depth: 0,
+                count: 0,
+            };
+            Ok(Routine {
+                made: Some(make(rt, path)?),
+                figures,
+                table,
+            })
+        }
+    }
+}

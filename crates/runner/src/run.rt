@@ -1,0 +1,125 @@
+// `spl run`: a source or an image on the machine, to its ending or to a limit.
+use crate::routine::{Routine, open};
+use crate::settings::Settings;
+use machine::call::{Answer, Call, Exchange};
+use machine::lent::Lent;
+use machine::session::Session;
+use machine::vm::Vm;
+use std::alloc::Global;
+use trials::trial::Trial;
+use words::store::lent::Words;
+
+const LIMIT: u64 = 10000000;
+
+// What the calls answered.
+#[derive(Drop)]
+struct Outcome {
+    vm: Vm,
+    words: Vec<u16>,
+}
+
+// A resume, a report, and a look at each cell.
+fn exchanges(heap: Global, limit: u64, cells: u16) -> anyhow::Result<Vec<Exchange>> {
+    let mut list = Vec::new(heap);
+    list.push(Exchange::of(Call::Resume(limit)))?;
+    list.push(Exchange::of(Call::Report))?;
+    for cell in 0..cells {
+        list.push(Exchange::of(Call::Look(cell)))?;
+    }
+    Ok(list)
+}
+
+// Makes the calls: those of a source by the one call that carries the whole promise, those of an image by a session of its own.
+fn play(
+    heap: Global,
+    routine: &Routine,
+    store: &mut Words<'_>,
+    exchanges: &mut [Exchange],
+) -> anyhow::Result<()> {
+    let code = routine.code();
+    let mut stack = vec![in heap; 0u16; code.depth as usize]?;
+    if let Some(source) = routine.source() {
+        let mut trial = Trial::new(heap)?;
+        trial.play(source, stack.as_mut_slice(), store, exchanges)?;
+        return Ok(());
+    }
+    let mut lent = Lent {
+        code: code.instructions,
+        stack: stack.as_mut_slice(),
+        store,
+    };
+    let mut session = Session::start(code.cells, code.depth, &lent)?;
+    session.play(&mut lent, exchanges);
+    Ok(())
+}
+
+// The registers of the last answer that has some, and the words in order.
+fn gathered(heap: Global, exchanges: &[Exchange]) -> anyhow::Result<Outcome> {
+    let mut outcome = Outcome {
+        vm: Vm {
+            place: 0,
+            height: 0,
+            steps: 0,
+            writes: 0,
+            ending: None,
+        },
+        words: Vec::new(heap),
+    };
+    for exchange in exchanges {
+        match exchange.answer? {
+            Answer::Registers(vm) => outcome.vm = vm,
+            Answer::Word(word) => outcome.words.push(word)?,
+        }
+    }
+    Ok(outcome)
+}
+
+// A run from these words, as its calls answer.
+fn make(heap: Global, routine: &Routine, before: &[u16], limit: u64) -> anyhow::Result<Outcome> {
+    let mut memory = Vec::from_slice(heap, before)?;
+    let mut store = Words {
+        cells: memory.as_mut_slice(),
+    };
+    let mut exchanges = exchanges(heap, limit, routine.code().cells)?;
+    play(heap, routine, &mut store, exchanges.as_mut_slice())?;
+    gathered(heap, exchanges.as_slice())
+}
+
+// A cell before and after, with a mark where its word is another.
+fn row(
+    rt: &HostRuntime,
+    routine: &Routine,
+    cell: u16,
+    before: u16,
+    after: u16,
+) -> anyhow::Result<()> {
+    let name = routine.name(rt.alloc(), cell)?;
+    let old = routine.value(cell, before);
+    let new = routine.value(cell, after);
+    if old == new {
+        println!(rt; "{cell:>5}  {name:<20} {old:>6} {new:>6}")?;
+    } else {
+        println!(rt; "{cell:>5}  {name:<20} {old:>6} {new:>6}  changed")?;
+    }
+    Ok(())
+}
+
+fn table(rt: &HostRuntime, routine: &Routine, before: &[u16], after: &[u16]) -> anyhow::Result<()> {
+    println!(rt; " cell  name                 before  after")?;
+    let cells = 0..routine.code().cells;
+    for (cell, (old, new)) in cells.zip(before.iter().zip(after.iter())) {
+        row(rt, routine, cell, *old, *new)?;
+    }
+    Ok(())
+}
+
+pub fn run(rt: &HostRuntime, path: &str, options: &[String]) -> anyhow::Result<()> {
+    let heap = rt.alloc();
+    let settings = Settings::of(rt, options, LIMIT)?;
+    settings.judge(rt, path)?;
+    let routine = open(rt, path)?;
+    let before = settings.store(heap, routine.code().cells)?;
+    let outcome = make(heap, &routine, before.as_slice(), settings.limit)?;
+    routine.tell_end(rt, outcome.vm)?;
+    table(rt, &routine, before.as_slice(), outcome.words.as_slice())
+}

@@ -1,0 +1,127 @@
+// `spl trace`: one line to each step of a source or an image.
+use crate::routine::{Routine, open};
+use crate::settings::Settings;
+use machine::lent::Lent;
+use machine::session::Session;
+use machine::vm::Vm;
+use report::fields::put_words;
+use report::instruction::shown;
+use std::alloc::Global;
+use std::fmt::Write;
+use words::instr::Instr;
+use words::op::Op;
+use words::store::Store;
+use words::store::lent::Words;
+
+const LIMIT: u64 = 200;
+
+// The cell that an instruction writes, on these stacked words. STX has its index under the value.
+fn target(i: Instr, stacked: &[u16]) -> Option<u16> {
+    match (Op::try_from(i.number), stacked) {
+        (Ok(Op::Stor | Op::Next), _) => Some(i.a),
+        (Ok(Op::Stx), [.., index, _]) => i.a.checked_add(*index),
+        _ => None,
+    }
+}
+
+// A step before it is made: its number, the instruction, and the words stacked, the top last.
+fn put_step(
+    out: &mut String,
+    heap: Global,
+    vm: Vm,
+    i: Option<Instr>,
+    stacked: &[u16],
+) -> anyhow::Result<()> {
+    write!(out, "{:>6} {:>6}  ", vm.steps.saturating_add(1), vm.place)?;
+    match i {
+        Some(i) => {
+            let text = shown(heap, i)?;
+            write!(out, "{text:<15}")?;
+        }
+        None => out.push_str("past the code  ")?,
+    }
+    out.push_str("  ")?;
+    put_words(out, stacked)?;
+    Ok(())
+}
+
+// The step after it was made: the cell that it wrote.
+fn put_write(
+    out: &mut String,
+    heap: Global,
+    routine: &Routine,
+    cell: u16,
+    word: u16,
+) -> anyhow::Result<()> {
+    let name = routine.name(heap, cell)?;
+    write!(out, "  {name} := {}", routine.value(cell, word))?;
+    Ok(())
+}
+
+// Makes one step and prints it.
+fn step<S: Store>(
+    rt: &HostRuntime,
+    routine: &Routine,
+    session: &mut Session,
+    lent: &mut Lent<'_, '_, '_, S>,
+) -> anyhow::Result<Vm> {
+    let heap = rt.alloc();
+    let before = session.report();
+    let i = lent.code.get(before.place as usize).copied();
+    let stacked = lent.stack.get(..before.height as usize).unwrap_or(&[]);
+    let mut text = String::new(heap);
+    put_step(&mut text, heap, before, i, stacked)?;
+    let target = i.and_then(|i| target(i, stacked));
+    let vm = session.resume(lent, 1)?;
+    if let (Some(cell), true) = (target, vm.writes > before.writes) {
+        let word = session.look(lent.store, cell)?;
+        put_write(&mut text, heap, routine, cell, word)?;
+    }
+    println!(rt; "{text}")?;
+    Ok(vm)
+}
+
+// Makes the steps over a store, and answers how the run stands then.
+fn steps<S: Store>(
+    rt: &HostRuntime,
+    routine: &Routine,
+    stack: &mut [u16],
+    store: &mut S,
+    limit: u64,
+) -> anyhow::Result<Vm> {
+    let code = routine.code();
+    let mut lent = Lent {
+        code: code.instructions,
+        stack,
+        store,
+    };
+    let mut session = Session::start(code.cells, code.depth, &lent)?;
+    for _ in 0..limit {
+        if session.report().ending.is_some() {
+            break;
+        }
+        step(rt, routine, &mut session, &mut lent)?;
+    }
+    Ok(session.report())
+}
+
+pub fn trace(rt: &HostRuntime, path: &str, options: &[String]) -> anyhow::Result<()> {
+    let heap = rt.alloc();
+    let settings = Settings::of(rt, options, LIMIT)?;
+    settings.judge(rt, path)?;
+    let routine = open(rt, path)?;
+    let mut stack = vec![in heap; 0u16; routine.code().depth as usize]?;
+    let mut memory = settings.store(heap, routine.code().cells)?;
+    let mut store = Words {
+        cells: memory.as_mut_slice(),
+    };
+    println!(rt; "  step  index  instruction      stack before, top last; write")?;
+    let vm = steps(
+        rt,
+        &routine,
+        stack.as_mut_slice(),
+        &mut store,
+        settings.limit,
+    )?;
+    routine.tell_end(rt, vm)
+}

@@ -1,4 +1,0 @@
-pub mod Faults
-pub mod Sessions
-pub mod Calls
-pub mod Lent
