@@ -6,8 +6,10 @@ use Rattle.std.proofs.lemmas.Bool.{leb-true, true≢false}
 use Rattle.words.specs.declared.instr.Instr.{Instr}
 use Rattle.words.specs.declared.op.Op.{Op}
 use Rattle.words.specs.declared.op.Op.TheVariants.{Halt, Lit, Load, Stor, Ldx, Stx, Chk, Dup, Drop, Add, Sub, Mul, Div, Rem, Neg, Ladd, Lsub, Lmul, Ldiv, Lrem, Cmp, Lcmp, And, Or, Xor, Not, Fld, Dep, Shf, Br, Bre, Case, For, Next}
-use Rattle.words.specs.Ops.{ops, number_of}
-use Rattle.typed.specs.Instrs.{ins, nth, takes_list, leaves_list, up, down, dropped, height}
+use Rattle.words.specs.Ops.{ops}
+use Rattle.typed.specs.Instrs.{ins}
+use Rattle.words.specs.Heights.{height, height_by}
+use Rattle.words.proofs.Tables.{height_op}
 use Rattle.arith.specs.Integers.{sum, subscript, chosen, turns}
 use Rattle.machine.specs.declared.ending.Ending.{Ending}
 use Rattle.machine.specs.declared.ending.Ending.TheVariants.{TooHigh, Missing, BadOperand, Outside}
@@ -16,19 +18,6 @@ use Rattle.machine.specs.declared.vm.Move.TheVariants.{On, Push, Write}
 use Rattle.machine.specs.Table.{known, decoded, then, fine, wants, stopped, cell_of, push, act, row, moved}
 use Rattle.machine.specs.Machine.{State, made, fetched, goes, counted, settled, stepped, step}
 use Rattle.agreement.specs.Heights.{instruction_at, Heights}
-
-up_is : (k h : ℕ) → up k h ≡ k + h
-up_is zero h = omega arith
-up_is (suc k) h = omega (arith, up_is k h)
-
-down_is : (k h : ℕ) → down k h ≡ h - k
-down_is zero h = omega arith
-down_is (suc k) zero = omega arith
-down_is (suc k) (suc h) = omega (arith, down_is k h)
-
--- what the table makes of h words, as a sum
-height_is : (n a b h : ℕ) → height (ins n a b) h ≡ nth leaves_list n + (h - dropped n a - nth takes_list n)
-height_is n a b h = up_is (nth leaves_list n) _ ∙ ap (λ k. nth leaves_list n + k) (down_is (nth takes_list n) _ ∙ ap (λ k. k - nth takes_list n) (down_is (dropped n a) h))
 
 -- the height after a move
 abbrev lifts : Move → ℕ → ℕ
@@ -51,58 +40,45 @@ moves_push Q k (Err e) h = tt
 
 -- a move of an instruction takes h words to what the table says
 abbrev Fits : Op → (a b h : ℕ) → Move → Type 0
-Fits o a b h m = lifts m h ≡ height (ins (number_of o) a b) h
+Fits o a b h m = lifts m h ≡ height_by (Some o) a h
 
 fits_act : (o : Op) (a b p x y h : ℕ) (σ : List ℕ) → wants o a ≤ h → Moves (Fits o a b h) (act o a b p x y σ)
 fits_act Halt a b p x y h σ w = tt
-fits_act Lit a b p x y h σ w = omega (arith, height_is 1 a b h)
-fits_act Load a b p x y h σ w = moves_push (Fits Load a b h) 0 _ (λ _. omega (arith, height_is 2 a b h))
-fits_act Stor a b p x y h σ w = omega (arith, height_is 3 a b h)
-fits_act Ldx a b p x y h σ w = moves_push (Fits Ldx a b h) 1 _ (λ _. omega (arith, height_is 4 a b h))
-fits_act Stx a b p x y h σ w = moves_then (Fits Stx a b h) (stopped (subscript y b)) (λ i. Ok (Write 2 (a + i) x (p + 1))) (λ _. omega (arith, height_is 5 a b h))
-fits_act Chk a b p x y h σ w = moves_then (Fits Chk a b h) (stopped (subscript x a)) (λ i. Ok (On 0 (p + 1))) (λ _. omega (arith, height_is 6 a b h))
-fits_act Dup a b p x y h σ w = omega (arith, height_is 7 a b h)
-fits_act Drop a b p x y h σ w = omega (arith, height_is 8 a b h)
-fits_act Add a b p x y h σ w = moves_push (Fits Add a b h) 2 _ (λ _. omega (arith, height_is 9 a b h))
-fits_act Sub a b p x y h σ w = moves_push (Fits Sub a b h) 2 _ (λ _. omega (arith, height_is 10 a b h))
-fits_act Mul a b p x y h σ w = moves_push (Fits Mul a b h) 2 _ (λ _. omega (arith, height_is 11 a b h))
-fits_act Div a b p x y h σ w = moves_push (Fits Div a b h) 2 _ (λ _. omega (arith, height_is 12 a b h))
-fits_act Rem a b p x y h σ w = moves_push (Fits Rem a b h) 2 _ (λ _. omega (arith, height_is 13 a b h))
-fits_act Neg a b p x y h σ w = moves_push (Fits Neg a b h) 1 _ (λ _. omega (arith, height_is 14 a b h))
-fits_act Ladd a b p x y h σ w = omega (arith, height_is 15 a b h)
-fits_act Lsub a b p x y h σ w = omega (arith, height_is 16 a b h)
-fits_act Lmul a b p x y h σ w = omega (arith, height_is 17 a b h)
-fits_act Ldiv a b p x y h σ w = moves_push (Fits Ldiv a b h) 2 _ (λ _. omega (arith, height_is 18 a b h))
-fits_act Lrem a b p x y h σ w = moves_push (Fits Lrem a b h) 2 _ (λ _. omega (arith, height_is 19 a b h))
-fits_act Cmp a b p x y h σ w = omega (arith, height_is 20 a b h)
-fits_act Lcmp a b p x y h σ w = omega (arith, height_is 21 a b h)
-fits_act And a b p x y h σ w = omega (arith, height_is 22 a b h)
-fits_act Or a b p x y h σ w = omega (arith, height_is 23 a b h)
-fits_act Xor a b p x y h σ w = omega (arith, height_is 24 a b h)
-fits_act Not a b p x y h σ w = omega (arith, height_is 25 a b h)
-fits_act Fld a b p x y h σ w = omega (arith, height_is 26 a b h)
-fits_act Dep a b p x y h σ w = omega (arith, height_is 27 a b h)
-fits_act Shf a b p x y h σ w = omega (arith, height_is 28 a b h)
-fits_act Br a b p x y h σ w = omega (arith, height_is 29 a b h)
-fits_act Bre a b p x y h σ w = omega (arith, height_is 30 a b h)
-fits_act Case a b p x y h σ w = moves_then (Fits Case a b h) (stopped (chosen x b)) (λ i. Ok (On 1 (a + i))) (λ _. omega (arith, height_is 31 a b h))
-fits_act For a b p x y h σ w = moves_then (Fits For a b h) (cell_of σ a) (λ v. Ok (On 0 (cond (turns v y x) (p + 1) b))) (λ _. omega (arith, height_is 32 a b h))
+fits_act Lit a b p x y h σ w = omega (arith, height_op Lit a h)
+fits_act Load a b p x y h σ w = moves_push (Fits Load a b h) 0 _ (λ _. omega (arith, height_op Load a h))
+fits_act Stor a b p x y h σ w = omega (arith, height_op Stor a h)
+fits_act Ldx a b p x y h σ w = moves_push (Fits Ldx a b h) 1 _ (λ _. omega (arith, height_op Ldx a h))
+fits_act Stx a b p x y h σ w = moves_then (Fits Stx a b h) (stopped (subscript y b)) (λ i. Ok (Write 2 (a + i) x (p + 1))) (λ _. omega (arith, height_op Stx a h))
+fits_act Chk a b p x y h σ w = moves_then (Fits Chk a b h) (stopped (subscript x a)) (λ i. Ok (On 0 (p + 1))) (λ _. omega (arith, height_op Chk a h))
+fits_act Dup a b p x y h σ w = omega (arith, height_op Dup a h)
+fits_act Drop a b p x y h σ w = omega (arith, height_op Drop a h)
+fits_act Add a b p x y h σ w = moves_push (Fits Add a b h) 2 _ (λ _. omega (arith, height_op Add a h))
+fits_act Sub a b p x y h σ w = moves_push (Fits Sub a b h) 2 _ (λ _. omega (arith, height_op Sub a h))
+fits_act Mul a b p x y h σ w = moves_push (Fits Mul a b h) 2 _ (λ _. omega (arith, height_op Mul a h))
+fits_act Div a b p x y h σ w = moves_push (Fits Div a b h) 2 _ (λ _. omega (arith, height_op Div a h))
+fits_act Rem a b p x y h σ w = moves_push (Fits Rem a b h) 2 _ (λ _. omega (arith, height_op Rem a h))
+fits_act Neg a b p x y h σ w = moves_push (Fits Neg a b h) 1 _ (λ _. omega (arith, height_op Neg a h))
+fits_act Ladd a b p x y h σ w = omega (arith, height_op Ladd a h)
+fits_act Lsub a b p x y h σ w = omega (arith, height_op Lsub a h)
+fits_act Lmul a b p x y h σ w = omega (arith, height_op Lmul a h)
+fits_act Ldiv a b p x y h σ w = moves_push (Fits Ldiv a b h) 2 _ (λ _. omega (arith, height_op Ldiv a h))
+fits_act Lrem a b p x y h σ w = moves_push (Fits Lrem a b h) 2 _ (λ _. omega (arith, height_op Lrem a h))
+fits_act Cmp a b p x y h σ w = omega (arith, height_op Cmp a h)
+fits_act Lcmp a b p x y h σ w = omega (arith, height_op Lcmp a h)
+fits_act And a b p x y h σ w = omega (arith, height_op And a h)
+fits_act Or a b p x y h σ w = omega (arith, height_op Or a h)
+fits_act Xor a b p x y h σ w = omega (arith, height_op Xor a h)
+fits_act Not a b p x y h σ w = omega (arith, height_op Not a h)
+fits_act Fld a b p x y h σ w = omega (arith, height_op Fld a h)
+fits_act Dep a b p x y h σ w = omega (arith, height_op Dep a h)
+fits_act Shf a b p x y h σ w = omega (arith, height_op Shf a h)
+fits_act Br a b p x y h σ w = omega (arith, height_op Br a h)
+fits_act Bre a b p x y h σ w = omega (arith, height_op Bre a h)
+fits_act Case a b p x y h σ w = moves_then (Fits Case a b h) (stopped (chosen x b)) (λ i. Ok (On 1 (a + i))) (λ _. omega (arith, height_op Case a h))
+fits_act For a b p x y h σ w = moves_then (Fits For a b h) (cell_of σ a) (λ v. Ok (On 0 (cond (turns v y x) (p + 1) b))) (λ _. omega (arith, height_op For a h))
 fits_act Next a b p x y h σ w =
     moves_then (Fits Next a b h) (cell_of σ a) (λ v. then (stopped (sum v y)) (λ u. Ok (Write 0 a u b)))
-    (λ v. moves_then (Fits Next a b h) (stopped (sum v y)) (λ u. Ok (Write 0 a u b)) (λ _. omega (arith, height_is 33 a b h)))
-
--- an instruction has its number
-abbrev Counts : List ℕ → ℕ → Type 0
-Counts [] k = Unit {0}
-Counts (x ∷ xs) k = (x ≡ k) × Counts xs (suc k)
-
-nth_counts : (xs : List ℕ) (k n m : ℕ) → Counts xs k → slice_get xs n ≡ Some m → m ≡ k + n
-nth_counts [] k n m h e = absurd (let z : ◌≡◌ {A = ℕ} 0 1 = cc in omega arith)
-nth_counts (x ∷ xs) k zero m h e = let f : x ≡ m = cc in omega (arith, h.0)
-nth_counts (x ∷ xs) k (suc n) m h e = omega (arith, nth_counts xs (suc k) n m h.1 e)
-
-number_at : (n : ℕ) (o : Op) → slice_get ops n ≡ Some o → number_of o ≡ n
-number_at n o e = omega (arith, nth_counts (map number_of ops) 0 n (number_of o) (search arith) (slice_get-map number_of ops n ∙ ap (λ v. elim v [ Some x ↦ Some (number_of x) | None ↦ None ]) e))
+    (λ v. moves_then (Fits Next a b h) (stopped (sum v y)) (λ u. Ok (Write 0 a u b)) (λ _. omega (arith, height_op Next a h)))
 
 moves_held : (Q : Move → Type 0) (f l : Bool) (r : Result Move Ending) → (l ≡ true → Moves Q r) → Moves Q (then (cond f (cond l (Ok tt) (Err Missing)) (Err BadOperand)) (λ (_ : Unit {0}). r))
 moves_held Q false l r h = tt
@@ -118,13 +94,13 @@ fits_row o a b p h st σ =
 abbrev Lifts : Instr → ℕ → Move → Type 0
 Lifts i h m = lifts m h ≡ height i h
 
-lifts_known : (n a b p h : ℕ) (st σ : List ℕ) (v : Option Op) → slice_get ops n ≡ v → Moves (Lifts (ins n a b) h) (then (known v) (λ o. row o a b p h st σ))
-lifts_known n a b p h st σ (Some o) e = subst (λ k. Moves (Lifts (ins k a b) h) (row o a b p h st σ)) (number_at n o e) (fits_row o a b p h st σ)
-lifts_known n a b p h st σ None e = tt
+lifts_known : (i : Instr) (p h : ℕ) (st σ : List ℕ) (v : Option Op) → slice_get ops i.number ≡ v → Moves (Lifts i h) (then (known v) (λ o. row o i.a i.b p h st σ))
+lifts_known i p h st σ (Some o) e = subst (λ r. Moves (λ m. lifts m h ≡ height_by r i.a h) (row o i.a i.b p h st σ)) (sym e) (fits_row o i.a i.b p h st σ)
+lifts_known i p h st σ None e = tt
 
 lifts_fetched : (b : Bool) (i : Instr) (p h : ℕ) (st σ : List ℕ) → Moves (Lifts i h) (cond b (moved i p h st σ) (Err Outside))
 unfolding decoded
-lifts_fetched true i p h st σ = lifts_known i.number i.a i.b p h st σ (slice_get ops i.number) refl
+lifts_fetched true i p h st σ = lifts_known i p h st σ (slice_get ops i.number) refl
 lifts_fetched false i p h st σ = tt
 
 -- a state that is reached has so many words stacked

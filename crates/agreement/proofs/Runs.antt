@@ -2,7 +2,7 @@
 use Rattle.std.proofs.Common.{◌≡◌, ℕ, zero, suc, ◌+◌, ◌≤◌, Bool, true, false, ltb, List, [], ◌∷◌, ◌++◌, length, get_or, Ok, Err, refl, ◌∙◌, append_assoc, append-nil, suc-add, zero-add, arith}
 use Rattle.arith.specs.declared.stop.Stop.{Stop}
 use Rattle.words.specs.declared.instr.Instr.{Instr}
-use Rattle.typed.specs.Instrs.{height}
+use Rattle.words.specs.Heights.{height}
 use Rattle.machine.specs.declared.ending.Ending.TheVariants.{Stopped}
 use Rattle.meaning.specs.Effects.{Store, Write, leave, Effect, effect, cut, M, before, onward, bind, ret, meets, Did, did, fails, Act, effect_of, prim, loop, until}
 use Rattle.meaning.proofs.Stores.{leave_append, length_leave}

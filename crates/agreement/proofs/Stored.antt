@@ -15,49 +15,13 @@ use Rattle.machine.specs.Table.{known, decoded, then, fine, wants, stopped, cell
 use Rattle.machine.specs.Machine.{State, made, fetched, goes, counted, settled, stepped, step, run}
 use Rattle.meaning.specs.Effects.{Store}
 use Rattle.agreement.specs.Agreement.{after}
-use Rattle.agreement.specs.Sessions.{storing, writing, writes_in}
+use Rattle.agreement.specs.Sessions.{stores, storing, writing, writes_in}
 use Rattle.agreement.proofs.Moves.{blank}
 
 abbrev writes : Move → Bool
 writes (On k q) = false
 writes (Push k w) = false
 writes (Puts k c w q) = true
-
-abbrev stores : Op → Bool
-stores Halt = false
-stores Lit = false
-stores Load = false
-stores Stor = true
-stores Ldx = false
-stores Stx = true
-stores Chk = false
-stores Dup = false
-stores Drop = false
-stores Add = false
-stores Sub = false
-stores Mul = false
-stores Div = false
-stores Rem = false
-stores Neg = false
-stores Ladd = false
-stores Lsub = false
-stores Lmul = false
-stores Ldiv = false
-stores Lrem = false
-stores Cmp = false
-stores Lcmp = false
-stores And = false
-stores Or = false
-stores Xor = false
-stores Not = false
-stores Fld = false
-stores Dep = false
-stores Shf = false
-stores Br = false
-stores Bre = false
-stores Case = false
-stores For = false
-stores Next = true
 
 -- a move writes or not, as b says
 abbrev Kinded : Bool → Result Move Ending → Type 0
@@ -113,35 +77,24 @@ kinded_readied b false w r h = tt
 kinded_readied b true false r h = tt
 kinded_readied b true true r h = h
 
--- the numbers of those that do
-abbrev Marked : ℕ → List Op → Type 0
-Marked n [] = Unit {0}
-Marked n (o ∷ os) = (stores o ≡ storing n) × Marked (suc n) os
+kinded_known : (v : Option Op) (f : Op → Result Move Ending) → ((o : Op) → Kinded (stores o) (f o)) → Kinded (storing v) (then (known v) f)
+kinded_known None f g = tt
+kinded_known (Some o) f g = g o
 
-marked : Marked 0 ops
-marked = (refl, (refl, (refl, (refl, (refl, (refl, (refl, (refl, (refl, (refl, (refl, (refl, (refl, (refl, (refl, (refl, (refl, (refl, (refl, (refl, (refl, (refl, (refl, (refl, (refl, (refl, (refl, (refl, (refl, (refl, (refl, (refl, (refl, (refl, tt))))))))))))))))))))))))))))))))))
-
-kinded_nth : (os : List Op) (n k j : ℕ) → Marked k os → k + n ≡ j → (f : Op → Result Move Ending) → ((o : Op) → Kinded (stores o) (f o)) → Kinded (storing j) (then (known (slice_get os n)) f)
-kinded_nth [] n k j h e f g = tt
-kinded_nth (o ∷ os) zero k j h e f g =
-    let q : k ≡ j = omega arith in
-    subst (λ (b : Bool). Kinded b (f o)) (h.0 ∙ ap storing q) (g o)
-kinded_nth (o ∷ os) (suc n) k j h e f g = kinded_nth os n (suc k) j h.1 (omega arith) f g
-
-kinded_moved : (i : Instr) (p h : ℕ) (st σ : List ℕ) → Kinded (storing i.number) (moved i p h st σ)
+kinded_moved : (i : Instr) (p h : ℕ) (st σ : List ℕ) → Kinded (storing (slice_get ops i.number)) (moved i p h st σ)
 unfolding decoded
 kinded_moved i p h st σ =
-    kinded_nth ops i.number 0 i.number marked (omega arith) (λ o. row o i.a i.b p h st σ)
+    kinded_known (slice_get ops i.number) (λ o. row o i.a i.b p h st σ)
     (λ o. kinded_readied (stores o) (fine o i.a i.b) (leb (wants o i.a) h) _ (kinded_act o i.a i.b p (get_or st (h - 1) 0) (get_or st (h - 2) 0) σ))
 
 kinded_cond : (b f : Bool) (r : Result Move Ending) → Kinded b r → Kinded b (cond f r (Err Outside))
 kinded_cond b true r h = h
 kinded_cond b false r h = tt
 
-kinded_fetched : (P : List Instr) (s : State) → Kinded (storing (get_or P s.vm.place blank).number) (fetched P s)
+kinded_fetched : (P : List Instr) (s : State) → Kinded (storing (slice_get ops (get_or P s.vm.place blank).number)) (fetched P s)
 kinded_fetched P s =
     let i = get_or P s.vm.place blank in
-    kinded_cond (storing i.number) (ltb s.vm.place (length P)) (moved i s.vm.place s.vm.height s.stack s.cells) (kinded_moved i s.vm.place s.vm.height s.stack s.cells)
+    kinded_cond (storing (slice_get ops i.number)) (ltb s.vm.place (length P)) (moved i s.vm.place s.vm.height s.stack s.cells) (kinded_moved i s.vm.place s.vm.height s.stack s.cells)
 
 -- the count of writes goes up by one where b says so
 abbrev Counts : Bool → State → Result State Ending → Type 0
@@ -161,20 +114,20 @@ counts_then : (b : Bool) (d : ℕ) (s : State) (r : Result Move Ending) → Kind
 counts_then b d s (Ok m) h = subst (λ (c : Bool). Counts c s (made d m s)) h (counts_made d m s)
 counts_then b d s (Err e) h = tt
 
-counts_goes : (P : List Instr) (d : ℕ) (s : State) → Counts (storing (get_or P s.vm.place blank).number) s (goes P d s)
+counts_goes : (P : List Instr) (d : ℕ) (s : State) → Counts (storing (slice_get ops (get_or P s.vm.place blank).number)) s (goes P d s)
 unfolding goes
-counts_goes P d s = counts_then (storing (get_or P s.vm.place blank).number) d s (fetched P s) (kinded_fetched P s)
+counts_goes P d s = counts_then (storing (slice_get ops (get_or P s.vm.place blank).number)) d s (fetched P s) (kinded_fetched P s)
 
 counts_settled : (b : Bool) (s : State) (r : Result State Ending) → s.vm.ending ≡ None → Counts b s r → (settled r s).vm.writes ≡ s.vm.writes + cond (cond (is_some (settled r s).vm.ending) false b) 1 0
 counts_settled b s (Ok t) q h = rw (h.1, q) h.0
 counts_settled b s (Err e) q h = omega arith
 
 counts_stepped : (P : List Instr) (d : ℕ) (s : State) (o : Option Ending) → s.vm.ending ≡ o →
-    (stepped P d s o).vm.writes ≡ s.vm.writes + cond (cond (is_some (stepped P d s o).vm.ending) false (storing (get_or P s.vm.place blank).number)) 1 0
-counts_stepped P d s None q = counts_settled (storing (get_or P s.vm.place blank).number) (counted s) (goes P d (counted s)) q (counts_goes P d (counted s))
+    (stepped P d s o).vm.writes ≡ s.vm.writes + cond (cond (is_some (stepped P d s o).vm.ending) false (storing (slice_get ops (get_or P s.vm.place blank).number))) 1 0
+counts_stepped P d s None q = counts_settled (storing (slice_get ops (get_or P s.vm.place blank).number)) (counted s) (goes P d (counted s)) q (counts_goes P d (counted s))
 counts_stepped P d s (Some e) q =
     let z : s.vm.writes ≡ s.vm.writes + 0 = omega arith in
-    z ∙ ap (λ (o : Option Ending). s.vm.writes + cond (cond (is_some o) false (storing (get_or P s.vm.place blank).number)) 1 0) (sym q)
+    z ∙ ap (λ (o : Option Ending). s.vm.writes + cond (cond (is_some o) false (storing (slice_get ops (get_or P s.vm.place blank).number))) 1 0) (sym q)
 
 pub writes_counted : (b : Body) (st : List ℕ) (σ : Store) (m : ℕ) → (after b st σ m).vm.writes ≡ writes_in b st σ m
 unfolding writes_in after run step

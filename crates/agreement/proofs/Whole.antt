@@ -6,7 +6,8 @@ use Rattle.arith.specs.declared.stop.Stop.{Stop}
 use Rattle.arith.specs.declared.stop.Stop.TheVariants.{Overflow, ZeroDivisor, BadIndex, BadCase}
 use Rattle.words.specs.declared.instr.Instr.{Instr}
 use Rattle.typed.specs.Trees.{Body}
-use Rattle.typed.specs.Instrs.{HALT, height, peak}
+use Rattle.typed.specs.Instrs.{HALT, peak}
+use Rattle.words.specs.Heights.{height}
 use Rattle.typed.specs.Code.{code_b, end_b, program, depth}
 use Rattle.machine.specs.declared.ending.Ending.{Ending}
 use Rattle.machine.specs.declared.ending.Ending.TheVariants.{Halted}

@@ -1,7 +1,7 @@
 -- The table of pushes and pops, by which the depth of a code is counted, is what the machine's steps do.
 use Rattle.std.specs.Prelude.{◌≡◌, ℕ, List, None, slice_index_or}
 use Rattle.words.specs.declared.instr.Instr.{Instr}
-use Rattle.typed.specs.Instrs.{height}
+use Rattle.words.specs.Heights.{height}
 use Rattle.machine.specs.Machine.{State, step}
 
 -- the instruction that a machine is at

@@ -1,19 +1,31 @@
 -- The cells that code names are the source's.
-use Rattle.std.specs.Prelude.{◌≡◌, ℕ, ◌+◌, ◌<◌, ◌≤◌, List, ◌∷◌, ◌++◌}
+use Rattle.std.specs.Prelude.{◌≡◌, ℕ, ◌+◌, ◌≤◌, List, ◌∷◌, ◌++◌, Some, None, Option, slice_get}
+use Rattle.words.specs.declared.op.Op.{Op}
+use Rattle.words.specs.declared.op.Op.TheVariants.{Load, Stor, Ldx, Stx, For, Next}
+use Rattle.words.specs.Ops.{ops}
 use Rattle.words.specs.declared.instr.Instr.{Instr}
 use Rattle.trees.specs.Trees.{Program}
 use Rattle.typed.specs.Code.{program}
 use Rattle.checks.specs.Rules.{Right, widths}
 use Rattle.checks.specs.Writing.{resolve}
 
--- each instruction that names a cell, or the cells of an array, names some of the first n
-pub record Names (n : ℕ) (i : Instr) : Type 0 where
-  pub load : i.number ≡ 2 → i.a < n
-  pub stor : i.number ≡ 3 → i.a < n
-  pub ldx : i.number ≡ 4 → i.a + i.b ≤ n
-  pub stx : i.number ≡ 5 → i.a + i.b ≤ n
-  pub for : i.number ≡ 32 → i.a < n
-  pub next : i.number ≡ 33 → i.a < n
+-- the cells that an instruction names lie below this: LOAD, STOR, FOR and NEXT name one, LDX and STX those of an array
+abbrev pub reach : Op → (a b : ℕ) → ℕ
+reach Load a b = a + 1
+reach Stor a b = a + 1
+reach For a b = a + 1
+reach Next a b = a + 1
+reach Ldx a b = a + b
+reach Stx a b = a + b
+reach _ a b = 0
+
+abbrev pub reach_of : Option Op → (a b : ℕ) → ℕ
+reach_of None a b = 0
+reach_of (Some o) a b = reach o a b
+
+-- each cell that the instruction names is one of the first n
+abbrev pub Names : (n : ℕ) → Instr → Type 0
+Names n i = reach_of (slice_get ops i.number) i.a i.b ≤ n
 
 -- each instruction of the code of a source that keeps the rules names cells of the source's
 abbrev pub Celled : Type 0

@@ -1,5 +1,8 @@
 -- Sessions: what any list of calls on the code of a source comes to.
-use Rattle.std.specs.Prelude.{◌≡◌, ℕ, zero, suc, ◌+◌, ◌<◌, ◌≤◌, min, Bool, false, cond, ◌||◌, List, [], ◌∷◌, length, take, is_some, Some, None, ◌==◌, slice_index, slice_index_or}
+use Rattle.std.specs.Prelude.{◌≡◌, ℕ, zero, suc, ◌+◌, ◌<◌, ◌≤◌, min, Bool, false, cond, List, [], ◌∷◌, length, take, is_some, Some, None, slice_index, true, Option, slice_get}
+use Rattle.words.specs.declared.op.Op.{Op}
+use Rattle.words.specs.declared.op.Op.TheVariants.{Stor, Stx, Next}
+use Rattle.words.specs.Ops.{ops}
 use Rattle.typed.specs.Trees.{Body}
 use Rattle.typed.specs.Code.{program, depth}
 use Rattle.machine.specs.declared.ending.Ending.{Ending}
@@ -15,6 +18,7 @@ use Rattle.trees.specs.Trees.{Program}
 use Rattle.checks.specs.Rules.{Right, widths}
 use Rattle.checks.specs.Writing.{resolve}
 use Rattle.agreement.specs.Agreement.{end_of, after}
+use Rattle.agreement.specs.Heights.{instruction_at}
 
 -- the sum of all limits, those of refused resumes too
 unfoldable pub limits : List Call → ℕ
@@ -28,13 +32,20 @@ pub record EndsIn (b : Body) (st : List ℕ) (σ : Store) (n : ℕ) (e : Ending)
   pub ended : (after b st σ n).vm.ending ≡ Some e
   pub first : (j : ℕ) → j < n → (after b st σ j).vm.ending ≡ None
 
--- the instructions that write a cell: STOR, STX and NEXT
-abbrev pub storing : ℕ → Bool
-storing n = n == 3 || (n == 5 || n == 33)
+-- the instructions that write a cell
+abbrev pub stores : Op → Bool
+stores Stor = true
+stores Stx = true
+stores Next = true
+stores _ = false
+
+abbrev pub storing : Option Op → Bool
+storing None = false
+storing (Some o) = stores o
 
 -- whether the step after m steps writes a cell: an ending step does not, nor is there one after the end
 abbrev pub writing : Body → List ℕ → Store → ℕ → Bool
-writing b st σ m = cond (is_some (after b st σ (suc m)).vm.ending) false (storing (slice_index_or (program b) (after b st σ m).vm.place record { number = 0; a = 0; b = 0 }).number)
+writing b st σ m = cond (is_some (after b st σ (suc m)).vm.ending) false (storing (slice_get ops (instruction_at (program b) (after b st σ m)).number))
 
 -- how many of the first m steps write one
 unfoldable pub writes_in : Body → List ℕ → Store → ℕ → ℕ

@@ -16,7 +16,7 @@ use Rattle.image.specs.Codes.{entry_bytes, image, good_entry, good_header}
 use Rattle.image.specs.Groups.{written, more, number}
 use Rattle.image.specs.Reading.{entry_at, entries_at, figures_at, decoded}
 use Rattle.image.specs.Writing.{judged as judged_entries, encoded}
-use Rattle.words.specs.Rows.{operands_of}
+use Rattle.words.specs.Ops.{operands_of}
 use Rattle.code.specs.Compile.{compiled}
 use Rattle.code.specs.Examples.{Examples}
 

@@ -1,7 +1,8 @@
 -- Nowhere in the code are there more words than its depth. Assumes nothing.
 use Rattle.std.proofs.Common.{◌≡◌, ℕ, ◌≤◌, ◌⊎◌, inl, inr, max, List, [], ◌∷◌, ◌++◌, sym, refl, ap, subst, ◌∙◌, arith}
 use Rattle.words.specs.declared.instr.Instr.{Instr}
-use Rattle.typed.specs.Instrs.{height, peak}
+use Rattle.typed.specs.Instrs.{peak}
+use Rattle.words.specs.Heights.{height}
 use Rattle.typed.specs.Trees.{Body}
 use Rattle.typed.specs.Code.{program, depth}
 use Rattle.checks.specs.Writing.{resolve}

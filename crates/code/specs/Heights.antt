@@ -1,7 +1,7 @@
 -- The depth is the largest number of words stacked, in the order of the code.
 use Rattle.std.specs.Prelude.{◌≡◌, ℕ, ◌≤◌, List, [], ◌∷◌, ◌++◌, Ok}
 use Rattle.words.specs.declared.instr.Instr.{Instr}
-use Rattle.typed.specs.Instrs.{height}
+use Rattle.words.specs.Heights.{height}
 use Rattle.typed.specs.Trees.{Body}
 use Rattle.typed.specs.Code.{program, depth}
 use Rattle.code.specs.Compile.{Code, compiled}

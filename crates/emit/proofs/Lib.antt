@@ -1,4 +1,3 @@
 pub mod Trees
 pub mod Loops
 pub mod Sizes
-pub mod Tables

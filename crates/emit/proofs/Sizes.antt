@@ -2,12 +2,11 @@
 use Rattle.std.proofs.Common.{◌≡◌, ℕ, zero, suc, ◌+◌, ◌-◌, ◌<◌, ◌≤◌, max, List, [], ◌∷◌, ◌++◌, length, get_or, drop, None, sym, refl, ap, ◌∙◌, arith, length-append}
 use Rattle.std.proofs.lemmas.List.{drop_more, drop_all}
 use Rattle.words.specs.declared.instr.Instr.{Instr}
-use Rattle.std.specs.List.{slice_get}
-use Rattle.words.specs.Ops.{ops}
 use Rattle.words.specs.Stacks.{below}
 use Rattle.typed.specs.declared.item.Item.{Item}
 use Rattle.typed.specs.declared.item.Item.TheVariants as item
-use Rattle.typed.specs.Instrs.{HALT, up, down, nth, takes_list, leaves_list, dropped, height, peak}
+use Rattle.typed.specs.Instrs.{HALT, peak}
+use Rattle.words.specs.Heights.{up, down, height}
 use Rattle.typed.specs.Trees.{Body}
 use Rattle.typed.specs.Lists.{items}
 use Rattle.typed.specs.Code.{depth}
@@ -16,7 +15,6 @@ use Rattle.emit.specs.Items.{go, emits, next, starts, ends, table, emitted}
 use Rattle.emit.specs.Measure.{stacked, deepest}
 use Rattle.emit.specs.Trees.{Emission}
 use Rattle.emit.proofs.Loops.{along_sum}
-use Rattle.emit.proofs.Tables.{number_past}
 use Rattle.emit.proofs.Trees.{emission}
 
 pub table_long : (n : ℕ) (ts : List Aim) → length (table n ts) ≡ n
@@ -107,25 +105,6 @@ pub stands : Emission
 stands = record { long = emitted_long; deep = emitted_deep; code = emission; stack = tree_deep }
 
 -- the loop
-up_sum : (k h : ℕ) → up k h ≡ h + k
-up_sum zero h = omega arith
-up_sum (suc k) h = omega (arith, up_sum k h)
-
-down_sub : (k h : ℕ) → down k h ≡ h - k
-down_sub zero h = omega arith
-down_sub (suc k) zero = omega arith
-down_sub (suc k) (suc h) = omega (arith, down_sub k h)
-
-pub height_is : (i : Instr) (h n t l : ℕ) → n ≡ i.number → t ≡ dropped n i.a + nth takes_list n → l ≡ nth leaves_list n → h - t + l ≡ height i h
-height_is i h n t l e x y =
-    let a = down_sub (dropped n i.a) h in
-    let b = down_sub (nth takes_list n) (down (dropped n i.a) h) in
-    let c = up_sum (nth leaves_list n) (down (nth takes_list n) (down (dropped n i.a) h)) in
-    rw (← e) (omega arith)
-
-pub height_none : (i : Instr) (h : ℕ) → slice_get ops i.number ≡ None → h ≡ height i h
-height_none i h e = let p = number_past i.number i.a e in rw (p.0, p.1, p.2)
-
 module _ (ns : List Item) (i : ℕ) (d : Item) (h : i < length ns) where
   pub deepest_more : (k m : ℕ) → m ≡ stacked (get_or ns i d) k → deepest (drop i ns) k ≡ max k (deepest (drop (i + 1) ns) m)
   deepest_more k m e = ap (λ l. deepest l k) (drop_more ns i d h) ∙ ap (λ (j : ℕ). max k (deepest (drop (i + 1) ns) j)) (sym e)

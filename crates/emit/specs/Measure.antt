@@ -3,7 +3,7 @@ use Rattle.std.specs.Prelude.{◌≡◌, ℕ, ◌+◌, ◌<◌, ◌≤◌, min, 
 use Rattle.words.specs.declared.instr.Instr.{Instr}
 use Rattle.typed.specs.declared.item.Item.{Item}
 use Rattle.typed.specs.declared.item.Item.TheVariants as item
-use Rattle.typed.specs.Instrs.{up, down, height}
+use Rattle.words.specs.Heights.{up, down, height}
 use Rattle.emit.specs.declared.place.Figures.{Figures}
 use Rattle.emit.specs.declared.place.Excess.{Excess}
 use Rattle.emit.specs.declared.place.Excess.TheVariants.{Items, Room}

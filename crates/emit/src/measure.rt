@@ -1,44 +1,11 @@
 // The length and the depth of the code, before any of it is made.
 ghost use Rattle.std.specs.Prelude.{◌≡◌, ℕ, ◌+◌, ◌*◌, ◌<◌, ◌≤◌};
-ghost use Rattle.words.specs.Ops.{number_of};
-ghost use Rattle.typed.specs.Instrs.{nth, takes_list, leaves_list, height, dropped};
+ghost use Rattle.words.specs.Heights.{height};
 ghost use Rattle.emit.specs.Items.{next};
 ghost use Rattle.emit.specs.Measure.{stacked, Measures};
 
 use crate::place::Figures;
 use typed::item::Item;
-use words::instr::Instr;
-use words::op::Op;
-
-// The words that an instruction takes off the stack: DROP as many as its operand says.
-#[tactic(auto, using(crate::proofs::Tables::taken))]
-fn takes(op: Op, a: u16) -> u32
-    ensures { result ≡ dropped (number_of op) a + nth takes_list (number_of op) }
-{
-    u32::from(op.takes(a))
-}
-
-// Those that it leaves there.
-fn leaves(op: Op) -> u32
-    ensures { (result ≡ nth leaves_list (number_of op)) × (result ≤ 2) }
-{
-    match op {
-        Op::Halt | Op::Stor | Op::Stx | Op::Drop | Op::Br | Op::Bre | Op::Case => 0,
-        Op::Dup | Op::For | Op::Next => 2,
-        _ => 1,
-    }
-}
-
-// The words stacked after an instruction; a number that none has changes nothing.
-fn height_after(i: Instr, h: u32) -> u32
-    requires { h < 1000000 }
-    ensures { (result ≡ height i h) × (result ≤ h + 2) }
-{
-    match Op::try_from(i.number) {
-        Ok(op) => h.saturating_sub(takes(op, i.a)) + leaves(op),
-        Err(_) => h,
-    }
-}
 
 // The words stacked after the code of an item.
 fn stack_after(item: Item, h: u32) -> u32
@@ -46,7 +13,7 @@ fn stack_after(item: Item, h: u32) -> u32
     ensures { (result ≡ stacked item h) × (result ≤ h + 2 * next item 0) }
 {
     match item {
-        Item::Plain(i) => height_after(i, h),
+        Item::Plain(i) => i.height_after(h) as u32,
         Item::Test | Item::Case(_) => h.saturating_sub(1),
         Item::For(_) | Item::Next(_) => h.saturating_sub(2) + 2,
         _ => h,

@@ -1,6 +1,6 @@
 -- A code, and its image.
 use Rattle.std.specs.Prelude.{ℕ, zero, suc, Bool, true, false, ◌&&◌, List, [], ◌∷◌, ◌++◌, length, Some, None, Option, ◌==◌, nat_le}
-use Rattle.words.specs.Rows.{operands_of}
+use Rattle.words.specs.Ops.{operands_of}
 use Rattle.words.specs.declared.instr.Instr.{Instr}
 use Rattle.words.specs.declared.code.Code.{Code as Lent}
 use Rattle.image.specs.Groups.{written}

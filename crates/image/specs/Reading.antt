@@ -1,7 +1,7 @@
 -- An image as it is read, number by number.
 use Rattle.std.specs.Prelude.{ℕ, zero, suc, ◌-◌, cond, List, [], ◌∷◌, ◌++◌, length, drop, Some, None, Ok, Err, Option, Result, ◌==◌, nat_lt}
 use Rattle.words.specs.Refusals.{refuse, then}
-use Rattle.words.specs.Rows.{operands_of}
+use Rattle.words.specs.Ops.{operands_of}
 use Rattle.words.specs.declared.refusal.Refusal.{Refusal}
 use Rattle.words.specs.declared.instr.Instr.{Instr}
 use Rattle.words.specs.declared.code.Figures.{Figures}

@@ -19,26 +19,6 @@ fn cell(i: Instr) -> Option<u16> {
     }
 }
 
-// The words that an instruction leaves of those that it takes, and what it adds.
-fn left(op: Op) -> usize {
-    match op {
-        Op::Halt | Op::Stor | Op::Stx | Op::Drop | Op::Br | Op::Bre | Op::Case => 0,
-        Op::Dup | Op::For | Op::Next => 2,
-        _ => 1,
-    }
-}
-
-// The words stacked behind an instruction before which there are so many. It is the same on whatever way the machine comes there:
-// every statement leaves the stack as it found it, and each part of an expression one word more.
-fn height_after(i: Instr, height: usize) -> usize {
-    match Op::try_from(i.number) {
-        Ok(op) => height
-            .saturating_sub(op.takes(i.a) as usize)
-            .saturating_add(left(op)),
-        Err(_) => height,
-    }
-}
-
 #[derive(Drop)]
 struct Page<'a> {
     heap: Global,
@@ -47,7 +27,9 @@ struct Page<'a> {
     // the line that was shown last, and the furthest one
     here: usize,
     far: usize,
-    height: usize,
+    // the words stacked before the next instruction. It is the same on whatever way the machine comes there: every statement leaves
+    // the stack as it found it, and each part of an expression one word more.
+    height: u32,
 }
 
 impl Page<'_> {
@@ -90,7 +72,7 @@ impl Page<'_> {
         } else {
             println!(rt; "{index:>12} {height:>6}  {text}")?;
         }
-        self.height = height_after(i, height);
+        self.height = u32::try_from(i.height_after(height)).unwrap_or(u32::MAX);
         Ok(())
     }
 }

@@ -1,7 +1,6 @@
 -- What a step does, whatever the instruction.
 use Rattle.std.specs.Prelude.{◌≡◌, ℕ, zero, suc, ◌+◌, ◌-◌, ◌<◌, ◌≤◌, true, ◌⊎◌, List, [], ◌∷◌, length, Some, None, Option, slice_index, slice_set}
-use Rattle.words.specs.Ops.{ops}
-use Rattle.words.specs.Rows.{operands_of}
+use Rattle.words.specs.Ops.{ops, operands_of}
 use Rattle.words.specs.declared.instr.Instr.{Instr}
 use Rattle.words.specs.declared.op.Op.{Op}
 use Rattle.machine.specs.declared.ending.Ending.{Ending}

@@ -75,10 +75,8 @@ impl Session {
     pub fn play<S: Store>(&mut self, lent: &mut Lent<'_, '_, '_, S>, exchanges: &mut [Exchange])
         ensures calls { asked exchanges.new ≡ asked exchanges.old }
         ensures answers { answered exchanges.new ≡ calls_of S.Store.words self.old lent.old (asked exchanges.old) }
-        ensures left {
-            state_of S.Store.words self.new lent.new
-                ≡ calls_leave S.Store.words self.old lent.old (asked exchanges.old)
-        }
+        ensures left { state_of S.Store.words self.new lent.new
+            ≡ calls_leave S.Store.words self.old lent.old (asked exchanges.old) }
         ensures lasts { Lasts S.Store.keeps self.old self.new lent.old lent.new }
     {
         for exchange in exchanges.iter_mut() {

@@ -99,11 +99,9 @@ impl<S: Store> View<'_, '_, '_, S> {
     // would be no plainer.
     #[inline(always)]
     pub(crate) fn row(&self, op: Op) -> Result<Move, Ending>
-        ensures {
-            let v = self.now in
+        ensures { let v = self.now in
             result
-                ≡ row_of op v.a v.b v.place v.stack.now.len (room v.stack.now) (S.Store.words v.store.now)
-        }
+            ≡ row_of op v.a v.b v.place v.stack.now.len (room v.stack.now) (S.Store.words v.store.now) }
     {
         let a = self.a;
         let b = self.b;

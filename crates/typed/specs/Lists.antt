@@ -5,32 +5,33 @@ use Rattle.arith.specs.Shifts.{kind_number}
 use Rattle.words.specs.declared.instr.Instr.{Instr}
 use Rattle.typed.specs.declared.item.Item.{Item}
 use Rattle.typed.specs.declared.item.Item.TheVariants as item
-use Rattle.typed.specs.Instrs.{ins, LIT, LOAD, STOR, LDX, STX, CHK, DUP, DROP, DEP}
+use Rattle.typed.specs.Instrs.{of, LIT, LOAD, STOR, LDX, STX, CHK, DUP, DROP, DEP}
+use Rattle.words.specs.declared.op.Op.TheVariants as op
 use Rattle.typed.specs.Trees.{Op, add, sub, mul, div, rem, ladd, lsub, lmul, ldiv, lrem, cmp, lcmp, land, lor, lxor, Uop, neg, not, fld, shf, Expr, lit, var, pick, bin, un, Clause, test, and, Cond, only, or, Stmt, assign, fill, deposit, deposit_at, when, either, while, repeat, for, case, Body, end, then, Arms, last, arm, size}
 
 -- the instruction of an operation
 abbrev pub op_instr : Op → Instr
-op_instr add = ins 9 0 0
-op_instr sub = ins 10 0 0
-op_instr mul = ins 11 0 0
-op_instr div = ins 12 0 0
-op_instr rem = ins 13 0 0
-op_instr ladd = ins 15 0 0
-op_instr lsub = ins 16 0 0
-op_instr lmul = ins 17 0 0
-op_instr ldiv = ins 18 0 0
-op_instr lrem = ins 19 0 0
-op_instr (cmp r) = ins 20 (relation_number r) 0
-op_instr (lcmp r) = ins 21 (relation_number r) 0
-op_instr land = ins 22 0 0
-op_instr lor = ins 23 0 0
-op_instr lxor = ins 24 0 0
+op_instr add = of op.Add 0 0
+op_instr sub = of op.Sub 0 0
+op_instr mul = of op.Mul 0 0
+op_instr div = of op.Div 0 0
+op_instr rem = of op.Rem 0 0
+op_instr ladd = of op.Ladd 0 0
+op_instr lsub = of op.Lsub 0 0
+op_instr lmul = of op.Lmul 0 0
+op_instr ldiv = of op.Ldiv 0 0
+op_instr lrem = of op.Lrem 0 0
+op_instr (cmp r) = of op.Cmp (relation_number r) 0
+op_instr (lcmp r) = of op.Lcmp (relation_number r) 0
+op_instr land = of op.And 0 0
+op_instr lor = of op.Or 0 0
+op_instr lxor = of op.Xor 0 0
 
 abbrev pub uop_instr : Uop → Instr
-uop_instr neg = ins 14 0 0
-uop_instr not = ins 25 0 0
-uop_instr (fld a b) = ins 26 a b
-uop_instr (shf k n) = ins 28 (kind_number k) n
+uop_instr neg = of op.Neg 0 0
+uop_instr not = of op.Not 0 0
+uop_instr (fld a b) = of op.Fld a b
+uop_instr (shf k n) = of op.Shf (kind_number k) n
 
 abbrev pub items_e : Expr → List Item → List Item
 items_e (lit w) r = item.Plain (LIT w) ∷ r

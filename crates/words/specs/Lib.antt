@@ -3,6 +3,6 @@ pub mod Halves
 pub mod Lists
 pub mod Ops
 pub mod Refusals
-pub mod Rows
+pub mod Heights
 pub mod Stores
 pub mod Stacks

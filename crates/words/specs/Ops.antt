@@ -1,5 +1,6 @@
 -- The instructions.
-use Rattle.std.specs.Prelude.{ℕ, List, [], ◌∷◌, codes}
+use Rattle.std.specs.Prelude.{ℕ, List, [], ◌∷◌, codes, Option, slice_get}
+use Rattle.std.specs.Option.{option_map}
 use Rattle.words.specs.declared.op.Op.{Op}
 use Rattle.words.specs.declared.op.Op.TheVariants.{Halt, Lit, Load, Stor, Ldx, Stx, Chk, Dup, Drop, Add, Sub, Mul, Div, Rem, Neg, Ladd, Lsub, Lmul, Ldiv, Lrem, Cmp, Lcmp, And, Or, Xor, Not, Fld, Dep, Shf, Br, Bre, Case, For, Next}
 
@@ -45,77 +46,61 @@ number_of Next = 33
 
 -- how many operands it names: none, `a` alone, or `a` and `b`
 abbrev pub named_by : Op → ℕ
-named_by Halt = 0
 named_by Lit = 1
 named_by Load = 1
 named_by Stor = 1
-named_by Ldx = 2
-named_by Stx = 2
 named_by Chk = 1
-named_by Dup = 0
 named_by Drop = 1
-named_by Add = 0
-named_by Sub = 0
-named_by Mul = 0
-named_by Div = 0
-named_by Rem = 0
-named_by Neg = 0
-named_by Ladd = 0
-named_by Lsub = 0
-named_by Lmul = 0
-named_by Ldiv = 0
-named_by Lrem = 0
 named_by Cmp = 1
 named_by Lcmp = 1
-named_by And = 0
-named_by Or = 0
-named_by Xor = 0
-named_by Not = 0
+named_by Br = 1
+named_by Bre = 1
+named_by Ldx = 2
+named_by Stx = 2
 named_by Fld = 2
 named_by Dep = 2
 named_by Shf = 2
-named_by Br = 1
-named_by Bre = 1
 named_by Case = 2
 named_by For = 2
 named_by Next = 2
+named_by _ = 0
+
+-- by the instruction's number; there is none over 33
+unfoldable pub operands_of : ℕ → Option ℕ
+operands_of n = option_map named_by (slice_get ops n)
 
 -- how many words it looks at on the stack: DROP as many as its operand says
 abbrev pub taken_by : Op → ℕ → ℕ
 taken_by Halt a = 0
 taken_by Lit a = 0
 taken_by Load a = 0
+taken_by Br a = 0
 taken_by Stor a = 1
 taken_by Ldx a = 1
-taken_by Stx a = 2
 taken_by Chk a = 1
 taken_by Dup a = 1
-taken_by Drop a = a
-taken_by Add a = 2
-taken_by Sub a = 2
-taken_by Mul a = 2
-taken_by Div a = 2
-taken_by Rem a = 2
 taken_by Neg a = 1
-taken_by Ladd a = 2
-taken_by Lsub a = 2
-taken_by Lmul a = 2
-taken_by Ldiv a = 2
-taken_by Lrem a = 2
-taken_by Cmp a = 2
-taken_by Lcmp a = 2
-taken_by And a = 2
-taken_by Or a = 2
-taken_by Xor a = 2
 taken_by Not a = 1
 taken_by Fld a = 1
-taken_by Dep a = 2
 taken_by Shf a = 1
-taken_by Br a = 0
 taken_by Bre a = 1
 taken_by Case a = 1
-taken_by For a = 2
-taken_by Next a = 2
+taken_by Drop a = a
+taken_by _ a = 2
+
+-- how many words it leaves in the place of those
+abbrev pub left_by : Op → ℕ
+left_by Halt = 0
+left_by Stor = 0
+left_by Stx = 0
+left_by Drop = 0
+left_by Br = 0
+left_by Bre = 0
+left_by Case = 0
+left_by Dup = 2
+left_by For = 2
+left_by Next = 2
+left_by _ = 1
 
 -- how a listing names it
 abbrev pub op_text : Op → List ℕ

@@ -1,7 +1,7 @@
 // Instruction records, and how many operands each instruction names.
-ghost use Rattle.std.specs.Prelude.{◌≡◌};
-ghost use Rattle.words.specs.Ops.{number_of};
-ghost use Rattle.words.specs.Rows.{operands_of};
+ghost use Rattle.std.specs.Prelude.{◌≡◌, ◌+◌, ◌≤◌};
+ghost use Rattle.words.specs.Ops.{number_of, operands_of};
+ghost use Rattle.words.specs.Heights.{height};
 
 use crate::op::Op;
 
@@ -21,6 +21,20 @@ impl Instr {
             number: op.into(),
             a,
             b,
+        }
+    }
+
+    // The words stacked after it, from `h` before it; as wide as any can be. A number that no instruction has changes nothing.
+    #[tactic(auto, using(crate::proofs::Tables::height_some, crate::proofs::Tables::height_none))]
+    pub fn height_after(self, h: u32) -> u64
+        ensures value { result ≡ height self h }
+        ensures bound { result ≤ h + 2 }
+    {
+        match Op::try_from(self.number) {
+            Ok(op) => {
+                u64::from(h.saturating_sub(u32::from(op.takes(self.a)))) + u64::from(op.leaves())
+            }
+            Err(_) => u64::from(h),
         }
     }
 }

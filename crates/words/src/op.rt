@@ -1,6 +1,6 @@
 // The instructions.
-ghost use Rattle.std.specs.Prelude.{◌≡◌, MatchResult, Some, None, slice_get};
-ghost use Rattle.words.specs.Ops.{ops, number_of, named_by, taken_by, op_text};
+ghost use Rattle.std.specs.Prelude.{◌≡◌, ◌≤◌, MatchResult, Some, None, slice_get};
+ghost use Rattle.words.specs.Ops.{ops, number_of, named_by, taken_by, left_by, op_text};
 
 use std::fmt;
 use thiserror::Error;
@@ -144,6 +144,18 @@ impl Op {
             | Op::Case => 1,
             Op::Drop => a,
             _ => 2,
+        }
+    }
+
+    // How many words it leaves in the place of those.
+    pub fn leaves(self) -> u8
+        ensures value { result ≡ left_by self }
+        ensures few { result ≤ 2 }
+    {
+        match self {
+            Op::Halt | Op::Stor | Op::Stx | Op::Drop | Op::Br | Op::Bre | Op::Case => 0,
+            Op::Dup | Op::For | Op::Next => 2,
+            _ => 1,
         }
     }
 

@@ -28,10 +28,8 @@ impl<S: Store> Machine<'_, '_, '_, '_, S> {
         requires counts { self.old.writes < self.old.steps }
         requires pops { pops_of m ≤ self.old.stack.now.len }
         requires place { self.old.place < 65536 }
-        ensures did {
-            let before = state_of S.Store.words self.old in
-            Makes result before (state_of S.Store.words self.new) (made self.old.depth m before)
-        }
+        ensures did { let before = state_of S.Store.words self.old in
+            Makes result before (state_of S.Store.words self.new) (made self.old.depth m before) }
         ensures lasts { Lasts S.Store.keeps self.old self.new }
     {
         match m {
@@ -83,10 +81,8 @@ impl<S: Store> Machine<'_, '_, '_, '_, S> {
     #[inline(always)]
     fn advance(&mut self) -> Result<(), Ending>
         requires { self.old.writes < self.old.steps }
-        ensures did {
-            let before = state_of S.Store.words self.old in
-            Makes result before (state_of S.Store.words self.new) (goes self.old.code.now self.old.depth before)
-        }
+        ensures did { let before = state_of S.Store.words self.old in
+            Makes result before (state_of S.Store.words self.new) (goes self.old.code.now self.old.depth before) }
         ensures lasts { Lasts S.Store.keeps self.old self.new }
     {
         let m = self.fetch()?;
@@ -98,10 +94,8 @@ impl<S: Store> Machine<'_, '_, '_, '_, S> {
     fn cycle(&mut self)
         requires steps { self.old.steps < 4000000000 }
         requires going { self.old.ending ≡ None }
-        ensures did {
-            let before = state_of S.Store.words self.old in
-            state_of S.Store.words self.new ≡ step_of self.old.code.now self.old.depth before
-        }
+        ensures did { let before = state_of S.Store.words self.old in
+            state_of S.Store.words self.new ≡ step_of self.old.code.now self.old.depth before }
         ensures lasts { Lasts S.Store.keeps self.old self.new }
     {
         self.steps += 1;
@@ -114,10 +108,8 @@ impl<S: Store> Machine<'_, '_, '_, '_, S> {
     #[inline(always)]
     pub(crate) fn run(&mut self, steps: u64)
         requires { self.old.steps + steps ≤ 4000000000 }
-        ensures did {
-            let before = state_of S.Store.words self.old in
-            state_of S.Store.words self.new ≡ run_of self.old.code.now self.old.depth steps before
-        }
+        ensures did { let before = state_of S.Store.words self.old in
+            state_of S.Store.words self.new ≡ run_of self.old.code.now self.old.depth steps before }
         ensures lasts { Lasts S.Store.keeps self.old self.new }
     {
         for i in 0..steps {

@@ -76,9 +76,7 @@ impl Session {
         limit: u64,
     ) -> Result<Vm, SessionFault>
         ensures answer { told refusal_of result ≡ registers (resume_of S.Store.words self.old lent.old limit) }
-        ensures left {
-            state_of S.Store.words self.new lent.new ≡ resume_leaves S.Store.words self.old lent.old limit
-        }
+        ensures left { state_of S.Store.words self.new lent.new ≡ resume_leaves S.Store.words self.old lent.old limit }
         ensures lasts { Lasts S.Store.keeps self.old self.new lent.old lent.new }
     {
         lent.fit(self.cells, self.depth)?;
