@@ -6,7 +6,7 @@ use Rattle.checks.specs.Faults.{least}
 use Rattle.checks.specs.Tables.{Table}
 use Rattle.checks.specs.Names.{program_table, program_names}
 use Rattle.checks.specs.Sizes.{program_sizes}
-use Rattle.checks.specs.Writing.{resolve_e, resolve_l, resolve_c, resolve_p, resolve_s, resolve_b, resolve_a, resolve}
+use Rattle.checks.specs.Resolving.{resolve_e, resolve_l, resolve_c, resolve_p, resolve_s, resolve_b, resolve_a, resolve}
 use Rattle.checks.specs.Rules.{NamedE, NamedL, NamedC, NamedP, NamedS, NamedB, NamedA, RangedE, RangedL, RangedC, RangedP, RangedS, RangedB, RangedA, Named, Ranged, Right, widths}
 use Rattle.checks.proofs.Laying.{Good}
 use Rattle.checks.proofs.NamedCells.{table_good, simple_cell, array_cells}
@@ -62,9 +62,6 @@ module _ (t : Table) (g : Good t) where
 within_program : (p : Program) → Named p → Ranged p → Within (resolve p) (program_table p).cells
 unfolding resolve
 within_program p n s = within_b (program_table p) (table_good p) p.body n.body s.body
-
-pub admitted_within : (p : Program) → least (program_names p) ≡ None → least (program_sizes p) ≡ None → Within (resolve p) (program_table p).cells
-admitted_within p n s = within_program p (named_there p n) (ranged_there p s)
 
 -- a source that keeps the rules
 pub ruled_within : (p : Program) → Right p → Within (resolve p) (widths p.decls)

@@ -5,7 +5,7 @@ use Rattle.words.specs.declared.instr.Instr.{Instr}
 use Rattle.words.specs.declared.refusal.Refusal.{Refusal}
 use Rattle.words.specs.Refusals.{refuse, then}
 use Rattle.typed.specs.Trees.{Body}
-use Rattle.typed.specs.Code.{program, depth}
+use Rattle.emit.specs.Code.{program, depth}
 use Rattle.machine.specs.declared.ending.Ending.{Ending}
 use Rattle.machine.specs.Machine.{State, state, step, run}
 use Rattle.machine.proofs.Runs.{lawful}

@@ -3,7 +3,7 @@ use Rattle.std.proofs.Common.{◌≡◌, ℕ, zero, suc, ◌+◌, ◌<◌, true,
 use Rattle.arith.specs.Integers.{subscript, chosen}
 use Rattle.words.specs.declared.instr.Instr.{Instr}
 use Rattle.typed.specs.Trees.{Expr, lit, var, pick, bin, un, Clause, test, and, Cond, only, or, Stmt, assign, fill, deposit, deposit_at, when, either, while, repeat, for, case, Body, end, then, Arms, last, arm, size}
-use Rattle.typed.specs.Code.{end_e, end_l, end_c, table_end, end_s, end_b, end_a, code_e, code_l, code_c, table, code_s, code_b, code_a}
+use Rattle.emit.specs.Code.{end_e, end_l, end_c, table_end, end_s, end_b, end_a, code_e, code_l, code_c, table, code_s, code_b, code_a}
 use Rattle.meaning.specs.Meaning.{eval, holds_l, holds, exec_s, exec, choice, WithinE, WithinL, WithinC, WithinS, Within, WithinA}
 use Rattle.meaning.proofs.Indexes.{chosen_below, says_answers}
 use Rattle.agreement.proofs.Moves.{at}

@@ -5,7 +5,7 @@ use Rattle.arith.specs.Logicals.{odd}
 use Rattle.arith.specs.Relations.{compared}
 use Rattle.arith.specs.Fields.{deposited}
 use Rattle.typed.specs.Instrs.{peak}
-use Rattle.typed.specs.Code.{program, depth}
+use Rattle.emit.specs.Code.{program, depth}
 use Rattle.machine.specs.Table.{decoded}
 use Rattle.machine.specs.Machine.{goes, step, run}
 use Rattle.meaning.specs.Meaning.{Within}

@@ -4,7 +4,7 @@ use Rattle.words.specs.declared.instr.Instr.{Instr}
 use Rattle.typed.specs.Instrs.{HALT, LIT, LOAD, STOR, LDX, STX, CHK, DUP, DROP, DEP, BR, BRE, CASE, FOR, NEXT}
 use Rattle.typed.specs.Trees.{Op, add, sub, mul, div, rem, ladd, lsub, lmul, ldiv, lrem, cmp, lcmp, land, lor, lxor, Uop, neg, not, fld, shf, Expr, lit, var, pick, bin, un, Clause, test, and, Cond, only, or, Stmt, assign, fill, deposit, deposit_at, when, either, while, repeat, for, case, Body, end, then, Arms, last, arm}
 use Rattle.typed.specs.Lists.{op_instr, uop_instr}
-use Rattle.typed.specs.Code.{table, code_e, code_l, code_c, code_s, code_b, code_a, program}
+use Rattle.emit.specs.Code.{table, code_e, code_l, code_c, code_s, code_b, code_a, program}
 use Rattle.meaning.specs.Meaning.{WithinE, WithinL, WithinC, WithinS, Within, WithinA}
 use Rattle.agreement.specs.Named.{Names}
 

@@ -3,7 +3,7 @@ use Rattle.agreement.specs.Agreement.{Agreement}
 use Rattle.agreement.specs.Named.{Celled}
 use Rattle.agreement.specs.Sessions.{Kept}
 use Rattle.checks.specs.Rules.{widths}
-use Rattle.checks.specs.Writing.{resolve}
+use Rattle.checks.specs.Resolving.{resolve}
 use Rattle.meaning.proofs.Cells.{confined}
 use Rattle.std.specs.Prelude.{length}
 use Rattle.agreement.proofs.Admitted.{ruled_within}

@@ -4,7 +4,7 @@ use Rattle.arith.specs.Integers.{sum, subscript, chosen, turns}
 use Rattle.words.specs.declared.instr.Instr.{Instr}
 use Rattle.words.specs.Ops.{ops}
 use Rattle.typed.specs.Trees.{Body}
-use Rattle.typed.specs.Code.{program, depth}
+use Rattle.emit.specs.Code.{program, depth}
 use Rattle.machine.specs.declared.ending.Ending.{Ending}
 use Rattle.machine.specs.declared.ending.Ending.TheVariants.{Outside, Missing, BadOperand}
 use Rattle.machine.specs.declared.vm.Move.{Move}

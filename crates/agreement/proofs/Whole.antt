@@ -8,7 +8,7 @@ use Rattle.words.specs.declared.instr.Instr.{Instr}
 use Rattle.typed.specs.Trees.{Body}
 use Rattle.typed.specs.Instrs.{HALT, peak}
 use Rattle.words.specs.Heights.{height}
-use Rattle.typed.specs.Code.{code_b, end_b, program, depth}
+use Rattle.emit.specs.Code.{code_b, end_b, program, depth}
 use Rattle.machine.specs.declared.ending.Ending.{Ending}
 use Rattle.machine.specs.declared.ending.Ending.TheVariants.{Halted}
 use Rattle.machine.specs.Endings.{number_of}

@@ -1,7 +1,7 @@
 -- The theorem: the machine, run on the code of a source, does what the source means.
 use Rattle.std.specs.Prelude.{◌≡◌, ℕ, ◌<◌, ◌≤◌, List, ◌++◌, length, take, Some, None, Ok, Err, Option}
 use Rattle.typed.specs.Trees.{Body}
-use Rattle.typed.specs.Code.{program, depth}
+use Rattle.emit.specs.Code.{program, depth}
 use Rattle.machine.specs.declared.ending.Ending.{Ending}
 use Rattle.machine.specs.declared.ending.Ending.TheVariants.{Halted, Stopped}
 use Rattle.machine.specs.Endings.{number_of}
@@ -10,7 +10,7 @@ use Rattle.meaning.specs.Effects.{Store, Write, leave, Effect, effect, cut, writ
 use Rattle.meaning.specs.Meaning.{exec}
 use Rattle.trees.specs.Trees.{Program}
 use Rattle.checks.specs.Rules.{Right, widths}
-use Rattle.checks.specs.Writing.{resolve}
+use Rattle.checks.specs.Resolving.{resolve}
 
 -- how a source ends: not where the bound was met
 abbrev pub end_of : Effect (Unit {0}) → Option Ending

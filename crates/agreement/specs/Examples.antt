@@ -2,7 +2,7 @@
 use Rattle.std.specs.Prelude.{◌≡◌, [], ◌∷◌, Some}
 use Rattle.arith.specs.declared.stop.Stop.TheVariants.{BadIndex}
 use Rattle.typed.specs.Instrs.{ins}
-use Rattle.typed.specs.Code.{program, depth}
+use Rattle.emit.specs.Code.{program, depth}
 use Rattle.machine.specs.declared.ending.Ending.TheVariants.{Halted, Stopped}
 use Rattle.machine.specs.Machine.{state}
 use Rattle.meaning.specs.Meaning.{Within}
@@ -23,6 +23,6 @@ pub record Examples : Type 0 where
   pub stops : (after filling (0 ∷ 0 ∷ 0 ∷ 0 ∷ []) (7 ∷ 0 ∷ 0 ∷ 0 ∷ 0 ∷ []) 60).vm.ending ≡ Some (Stopped BadIndex)
   pub cells : (after filling (0 ∷ 0 ∷ 0 ∷ 0 ∷ []) (7 ∷ 0 ∷ 0 ∷ 0 ∷ 0 ∷ []) 60).cells ≡ 4 ∷ 0 ∷ 1 ∷ 2 ∷ 3 ∷ []
   pub writes : (after filling (0 ∷ 0 ∷ 0 ∷ 0 ∷ []) (7 ∷ 0 ∷ 0 ∷ 0 ∷ 0 ∷ []) 60).vm.writes ≡ 7
-  -- the theorem holds of it: its premises can be met
+  -- it is within its cells, and keeps step as the theorem says of every source that keeps the rules
   pub within : Within filling 5
   pub keeps : Keeps filling (0 ∷ 0 ∷ 0 ∷ 0 ∷ []) (7 ∷ 0 ∷ 0 ∷ 0 ∷ 0 ∷ [])

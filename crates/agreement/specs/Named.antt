@@ -5,9 +5,10 @@ use Rattle.words.specs.declared.op.Op.TheVariants.{Load, Stor, Ldx, Stx, For, Ne
 use Rattle.words.specs.Ops.{ops}
 use Rattle.words.specs.declared.instr.Instr.{Instr}
 use Rattle.trees.specs.Trees.{Program}
-use Rattle.typed.specs.Code.{program}
+use Rattle.emit.specs.Code.{program}
+use Rattle.meaning.specs.Meaning.{Within}
 use Rattle.checks.specs.Rules.{Right, widths}
-use Rattle.checks.specs.Writing.{resolve}
+use Rattle.checks.specs.Resolving.{resolve}
 
 -- the cells that an instruction names lie below this: LOAD, STOR, FOR and NEXT name one, LDX and STX those of an array
 abbrev pub reach : Op → (a b : ℕ) → ℕ
@@ -26,6 +27,10 @@ reach_of (Some o) a b = reach o a b
 -- each cell that the instruction names is one of the first n
 abbrev pub Names : (n : ℕ) → Instr → Type 0
 Names n i = reach_of (slice_get ops i.number) i.a i.b ≤ n
+
+-- every cell that a source which keeps the rules names is one of its own
+abbrev pub Ruled : Type 0
+Ruled = (p : Program) → Right p → Within (resolve p) (widths p.decls)
 
 -- each instruction of the code of a source that keeps the rules names cells of the source's
 abbrev pub Celled : Type 0

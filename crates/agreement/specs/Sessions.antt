@@ -4,7 +4,7 @@ use Rattle.words.specs.declared.op.Op.{Op}
 use Rattle.words.specs.declared.op.Op.TheVariants.{Stor, Stx, Next}
 use Rattle.words.specs.Ops.{ops}
 use Rattle.typed.specs.Trees.{Body}
-use Rattle.typed.specs.Code.{program, depth}
+use Rattle.emit.specs.Code.{program, depth}
 use Rattle.machine.specs.declared.ending.Ending.{Ending}
 use Rattle.machine.specs.Endings.{number_of}
 use Rattle.machine.specs.Machine.{State, state}
@@ -16,7 +16,7 @@ use Rattle.meaning.specs.Effects.{Store, leave, writes_of}
 use Rattle.meaning.specs.Meaning.{exec}
 use Rattle.trees.specs.Trees.{Program}
 use Rattle.checks.specs.Rules.{Right, widths}
-use Rattle.checks.specs.Writing.{resolve}
+use Rattle.checks.specs.Resolving.{resolve}
 use Rattle.agreement.specs.Agreement.{end_of, after}
 use Rattle.agreement.specs.Heights.{instruction_at}
 

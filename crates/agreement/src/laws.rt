@@ -2,7 +2,7 @@
 ghost use Rattle.agreement.specs.Agreement.{Agreement};
 ghost use Rattle.agreement.specs.Examples.{Examples};
 ghost use Rattle.agreement.specs.Heights.{Heights};
-ghost use Rattle.agreement.specs.Named.{Celled};
+ghost use Rattle.agreement.specs.Named.{Celled, Ruled};
 ghost use Rattle.agreement.specs.Sessions.{Kept};
 
 // On the code of a source that keeps the rules, with its cells there and a stack of its depth, the machine makes the source's
@@ -22,12 +22,17 @@ pub fn heights_stand()
     ensures { Heights }
 {}
 
+// Every cell that a source which keeps the rules names is one of its own: so it writes no other.
+pub fn cells_are_within()
+    ensures { Ruled }
+{}
+
 // The code of a source that keeps the rules names no cells but the source's.
 pub fn cells_stand()
     ensures { Celled }
 {}
 
-// Two sources on the machine, step by step and in a session, and the theorem at one of them.
+// Two sources on the machine, step by step and in a session, and what the theorem says at one of them.
 pub fn examples_stand()
     ensures { Examples }
 {}

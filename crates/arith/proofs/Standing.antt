@@ -211,6 +211,7 @@ stands =
       compares = λ r y x h k. compared_says r y x (int_apart y x h k);
       lcompares = lcompared_says;
       stops = stops_back;
+      stop_numbers = (refl, refl, refl, refl);
       relations = relations_back;
       kinds = kinds_back;
       ands = and_bits;

@@ -68,6 +68,8 @@ pub record Arithmetic : Type 0 where
   pub lcompares : (r : Relation) (y x : ℕ) → Says (lcompared r y x) (Related r (pos y) (pos x))
   -- numbers of stops, relations and shifts
   pub stops : (s : Stop) → stop_of (number_of s) ≡ s
+  pub stop_numbers :
+      (number_of (stop_of 1) ≡ 1) × (number_of (stop_of 2) ≡ 2) × (number_of (stop_of 3) ≡ 3) × (number_of (stop_of 4) ≡ 4)
   pub relations : (r : Relation) → relation_of (relation_number r) ≡ r
   pub kinds : (k : Kind) → kind_of (kind_number k) ≡ k
   -- bit by bit

@@ -6,7 +6,7 @@ use Rattle.syntax.specs.declared.node.Node.{Node}
 use Rattle.syntax.specs.Entries.{Entry, entry_of, entries}
 use Rattle.syntax.specs.Entries as entry
 use Rattle.words.specs.Stacks.{below}
-use Rattle.checks.specs.Writing.{Counts, first, tallied, counted}
+use Rattle.checks.specs.CaseArms.{Counts, first, tallied, counted}
 use Rattle.checks.specs.Emissions.{AtMost, counts}
 
 weaker : (k : ℕ) (ns : List ℕ) → AtMost k ns → AtMost (suc k) ns

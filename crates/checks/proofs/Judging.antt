@@ -10,7 +10,8 @@ use Rattle.checks.specs.Tables.{Table, empty}
 use Rattle.checks.specs.Names.{name_faults, table_from}
 use Rattle.checks.specs.Types.{type_faults}
 use Rattle.checks.specs.Sizes.{size_faults}
-use Rattle.checks.specs.Writing.{counted, writes, typed_list}
+use Rattle.checks.specs.CaseArms.{counted}
+use Rattle.checks.specs.Emitting.{writes, typed_list}
 use Rattle.checks.specs.Emissions.{Narrow}
 use Rattle.checks.specs.Works.{earlier, verdict, answered, outcome, judged, checked}
 use Rattle.checks.proofs.Laying.{some_none}

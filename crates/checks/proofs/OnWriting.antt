@@ -10,7 +10,9 @@ use Rattle.typed.specs.Trees.{size}
 use Rattle.typed.specs.Lists.{items_e, items_l, items_c, items_s, items_b, items_a, items}
 use Rattle.checks.specs.Names.{program_table}
 use Rattle.checks.specs.Types.{kind_e}
-use Rattle.checks.specs.Writing.{Counts, first, more, tallied, counted, writes, typed_list, resolve_e, resolve_l, resolve_c, resolve_p, resolve_s, resolve_b, resolve_a, resolve}
+use Rattle.checks.specs.CaseArms.{Counts, first, more, tallied, counted}
+use Rattle.checks.specs.Emitting.{writes, typed_list}
+use Rattle.checks.specs.Resolving.{resolve_e, resolve_l, resolve_c, resolve_p, resolve_s, resolve_b, resolve_a, resolve}
 use Rattle.checks.proofs.OnNames.{table_program}
 
 -- the numbers of the CASEs in a statement, then those that follow

@@ -11,7 +11,8 @@ use Rattle.checks.specs.declared.rule.Rule.{Rule}
 use Rattle.checks.specs.Names.{decl_of, name_fault, name_faults, entered, table_from}
 use Rattle.checks.specs.Types.{rule_of, clash, after, type_faults, second}
 use Rattle.typed.specs.declared.item.Item.{Item}
-use Rattle.checks.specs.Writing.{emits, spent, first, writes}
+use Rattle.checks.specs.Emitting.{emits, writes}
+use Rattle.checks.specs.CaseArms.{spent, first}
 use Rattle.checks.specs.Sizes.{cells_fault, range_fault, size_faults}
 
 -- the entries from the place i on

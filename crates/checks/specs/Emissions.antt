@@ -4,7 +4,7 @@ use Rattle.typed.specs.declared.item.Item.{Item}
 use Rattle.checks.specs.declared.emission.Emission.{Emission}
 use Rattle.checks.specs.declared.emission.Emission.TheVariants.{Nothing, One, Two}
 use Rattle.checks.specs.Tables.{Table, row_of}
-use Rattle.checks.specs.Writing.{Counts}
+use Rattle.checks.specs.CaseArms.{Counts}
 
 abbrev pub items_of : Emission → List Item
 items_of Nothing = []

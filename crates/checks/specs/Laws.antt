@@ -9,7 +9,8 @@ use Rattle.checks.specs.Names.{name_faults, table_from, program_table, program_n
 use Rattle.checks.specs.Types.{type_faults, program_types}
 use Rattle.checks.specs.Sizes.{size_faults, program_sizes}
 use Rattle.checks.specs.Layout.{LaidOut}
-use Rattle.checks.specs.Writing.{typed_list, resolve}
+use Rattle.checks.specs.Emitting.{typed_list}
+use Rattle.checks.specs.Resolving.{resolve}
 
 -- each stage over the list of a program finds what it finds on the tree, and the typed list is that of the typed tree
 pub record OnTree (p : Program) : Type 0 where

@@ -3,7 +3,9 @@ pub mod Tables
 pub mod Names
 pub mod Types
 pub mod Sizes
-pub mod Writing
+pub mod CaseArms
+pub mod Emitting
+pub mod Resolving
 pub mod Emissions
 pub mod Layout
 pub mod Rules

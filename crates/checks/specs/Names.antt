@@ -34,42 +34,7 @@ subscripted n p = Some record { name = n; sort = sort.Array; place = p }
 abbrev pub decl_of : Entry → Option Declaring
 decl_of (entry.Simple n k p) = Some record { name = n; kind = k; sort = sort.Simple; cells = 1; place = p }
 decl_of (entry.Array n k l h p q) = Some record { name = n; kind = k; sort = sort.Array; cells = h + 1; place = p }
-decl_of (entry.Number v k) = None
-decl_of (entry.Load n p) = None
-decl_of (entry.Index n p q) = None
-decl_of (entry.Binary o p) = None
-decl_of (entry.Negate p) = None
-decl_of (entry.Lnot p) = None
-decl_of (entry.Convert k) = None
-decl_of (entry.Field a b p) = None
-decl_of (entry.Shift h c p) = None
-decl_of (entry.Store n p q) = None
-decl_of (entry.Checked n p q) = None
-decl_of (entry.StoreAt n p q) = None
-decl_of (entry.Fetch n p) = None
-decl_of (entry.FetchAt n p q) = None
-decl_of (entry.Deposit a b p) = None
-decl_of (entry.Test p) = None
-decl_of entry.Or = None
-decl_of entry.If = None
-decl_of entry.Then = None
-decl_of entry.Else = None
-decl_of entry.Fi = None
-decl_of entry.While = None
-decl_of entry.Loop = None
-decl_of entry.Do = None
-decl_of entry.Until = None
-decl_of entry.Done = None
-decl_of (entry.First n p f) = None
-decl_of (entry.Step f) = None
-decl_of entry.One = None
-decl_of (entry.For n p f) = None
-decl_of (entry.Next n) = None
-decl_of entry.Drop = None
-decl_of (entry.Case p) = None
-decl_of entry.Arm = None
-decl_of entry.Out = None
-decl_of entry.Esac = None
+decl_of _ = None
 
 abbrev pub use_of : Entry → Option Use
 use_of (entry.Load n p) = plain n p
@@ -81,35 +46,7 @@ use_of (entry.Fetch n p) = plain n p
 use_of (entry.FetchAt n p q) = subscripted n p
 use_of (entry.First n p f) = plain n p
 use_of (entry.For n p f) = plain n p
-use_of (entry.Simple n k p) = None
-use_of (entry.Array n k l h p q) = None
-use_of (entry.Number v k) = None
-use_of (entry.Binary o p) = None
-use_of (entry.Negate p) = None
-use_of (entry.Lnot p) = None
-use_of (entry.Convert k) = None
-use_of (entry.Field a b p) = None
-use_of (entry.Shift h c p) = None
-use_of (entry.Deposit a b p) = None
-use_of (entry.Test p) = None
-use_of entry.Or = None
-use_of entry.If = None
-use_of entry.Then = None
-use_of entry.Else = None
-use_of entry.Fi = None
-use_of entry.While = None
-use_of entry.Loop = None
-use_of entry.Do = None
-use_of entry.Until = None
-use_of entry.Done = None
-use_of (entry.Step f) = None
-use_of entry.One = None
-use_of (entry.Next n) = None
-use_of entry.Drop = None
-use_of (entry.Case p) = None
-use_of entry.Arm = None
-use_of entry.Out = None
-use_of entry.Esac = None
+use_of _ = None
 
 abbrev pub is_sort : Sort → Sort → Bool
 is_sort sort.Simple sort.Simple = true

@@ -59,27 +59,17 @@ DeclaredPast x r = SomeDecl (Past r) [] x.decls
 
 -- the name that an expression or a statement itself uses, what it asks of it, and where
 abbrev pub use_e : Expr → Option Use
-use_e (number v k) = None
 use_e (load n p) = plain n p
 use_e (index n p q e) = subscripted n p
-use_e (binary o p a b) = None
-use_e (negate p a) = None
-use_e (lnot p a) = None
-use_e (convert k a) = None
-use_e (field a b p e) = None
-use_e (shift s c p e) = None
+use_e _ = None
 
 abbrev pub use_s : Stmt → Option Use
 use_s (assign n p q e) = plain n p
 use_s (assign_at n p o i q e) = subscripted n p
 use_s (deposit n p a b f q e) = plain n p
 use_s (deposit_at n p o i a b f q e) = subscripted n p
-use_s (when c b) = None
-use_s (either c b d) = None
-use_s (choose p e a) = None
-use_s (while c b) = None
-use_s (repeat b c) = None
 use_s (count n p f e s l b) = plain n p
+use_s _ = None
 
 abbrev pub IfUsed : (Use → Type 0) → Option Use → Type 0
 IfUsed P None = ⊥
@@ -109,15 +99,11 @@ NameFault x r = UsedUnknown x r ⊎ DeclaredAgain x r ⊎ DeclaredPast x r ⊎ U
 
 -- 11 at the parenthesis of a subscript, at a `-` and at an operator
 abbrev pub IllE : Table → Refusal → Expr → Type 0
-IllE t r (number v k) = ⊥
-IllE t r (load n p) = ⊥
 IllE t r (index n p q e) = (r ≡ at 11 q) × (kind_e t e ≢ Integer)
 IllE t r (binary o p a b) = (r ≡ at 11 p) × ((kind_e t a ≡ kind_e t b) × Suits o (kind_e t a) → ⊥)
 IllE t r (negate p a) = (r ≡ at 11 p) × (kind_e t a ≢ Integer)
 IllE t r (lnot p a) = (r ≡ at 11 p) × (kind_e t a ≢ Logical)
-IllE t r (convert k a) = ⊥
-IllE t r (field a b p e) = ⊥
-IllE t r (shift s c p e) = ⊥
+IllE t r _ = ⊥
 
 -- at the first token of an expr of a condition
 abbrev pub IllT : Table → Refusal → ℕ → Expr → Type 0
@@ -135,13 +121,10 @@ IllS t r (assign_at n p o i q e) =
 IllS t r (deposit n p a b f q e) = (r ≡ at 11 q) × (kind_e t e ≢ (row_of t n).kind)
 IllS t r (deposit_at n p o i a b f q e) =
     ((r ≡ at 11 o) × (kind_e t i ≢ Integer)) ⊎ ((r ≡ at 11 q) × (kind_e t e ≢ (row_of t n).kind))
-IllS t r (when c b) = ⊥
-IllS t r (either c b d) = ⊥
 IllS t r (choose p e a) = (r ≡ at 11 p) × (kind_e t e ≢ Integer)
-IllS t r (while c b) = ⊥
-IllS t r (repeat b c) = ⊥
 IllS t r (count n p f e s l b) =
     (r ≡ at 11 f) × (((row_of t n).kind ≢ Integer) ⊎ (kind_e t e ≢ Integer) ⊎ IllStep t s ⊎ (kind_e t l ≢ Integer))
+IllS t r _ = ⊥
 
 -- the faults of types
 abbrev pub TypeFault : Program → Refusal → Type 0
@@ -149,27 +132,14 @@ TypeFault x r = SomeB (IllE (program_table x) r) (IllT (program_table x) r) (Ill
 
 -- 12 at the first number of a field, at the count of a shift and at a low bound
 abbrev pub OutE : Refusal → Expr → Type 0
-OutE r (number v k) = ⊥
-OutE r (load n p) = ⊥
-OutE r (index n p q e) = ⊥
-OutE r (binary o p a b) = ⊥
-OutE r (negate p a) = ⊥
-OutE r (lnot p a) = ⊥
-OutE r (convert k a) = ⊥
 OutE r (field a b p e) = (r ≡ at 12 p) × (is_field a b ≡ false)
 OutE r (shift s c p e) = (r ≡ at 12 p) × (15 < c)
+OutE r _ = ⊥
 
 abbrev pub OutS : Refusal → Stmt → Type 0
-OutS r (assign n p q e) = ⊥
-OutS r (assign_at n p o i q e) = ⊥
 OutS r (deposit n p a b f q e) = (r ≡ at 12 f) × (is_field a b ≡ false)
 OutS r (deposit_at n p o i a b f q e) = (r ≡ at 12 f) × (is_field a b ≡ false)
-OutS r (when c b) = ⊥
-OutS r (either c b d) = ⊥
-OutS r (choose p e a) = ⊥
-OutS r (while c b) = ⊥
-OutS r (repeat b c) = ⊥
-OutS r (count n p f e s l b) = ⊥
+OutS r _ = ⊥
 
 abbrev pub OutD : Refusal → List Decl → Decl → Type 0
 OutD r before (simple n k p) = ⊥

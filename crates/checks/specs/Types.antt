@@ -40,20 +40,10 @@ joined Lor k = k
 
 -- LAND, XOR and LOR take LOGICALs only
 abbrev pub takes_kind : Operator → Kind → Bool
-takes_kind Times k = true
-takes_kind Divide k = true
-takes_kind Mod k = true
-takes_kind Plus k = true
-takes_kind Minus k = true
-takes_kind Equal k = true
-takes_kind Unequal k = true
-takes_kind Less k = true
-takes_kind AtMost k = true
-takes_kind Greater k = true
-takes_kind AtLeast k = true
 takes_kind Land k = is_kind Logical k
 takes_kind Xor k = is_kind Logical k
 takes_kind Lor k = is_kind Logical k
+takes_kind _ k = true
 
 -- both sides of one type, and one that the operator takes
 abbrev pub agree : Operator → Kind → Kind → Bool
@@ -88,28 +78,7 @@ rule_of t (entry.First n p f) = Starts (row_of t n).kind f
 rule_of t (entry.Step f) = Takes Integer f
 rule_of t (entry.For n p f) = Takes Integer f
 rule_of t (entry.Case p) = Takes Integer p
-rule_of t (entry.Simple n k p) = Idle
-rule_of t (entry.Array n k l h p q) = Idle
-rule_of t (entry.Field a b p) = Idle
-rule_of t (entry.Shift h c p) = Idle
-rule_of t (entry.Fetch n p) = Idle
-rule_of t (entry.Deposit a b p) = Idle
-rule_of t entry.Or = Idle
-rule_of t entry.If = Idle
-rule_of t entry.Then = Idle
-rule_of t entry.Else = Idle
-rule_of t entry.Fi = Idle
-rule_of t entry.While = Idle
-rule_of t entry.Loop = Idle
-rule_of t entry.Do = Idle
-rule_of t entry.Until = Idle
-rule_of t entry.Done = Idle
-rule_of t entry.One = Idle
-rule_of t (entry.Next n) = Idle
-rule_of t entry.Drop = Idle
-rule_of t entry.Arm = Idle
-rule_of t entry.Out = Idle
-rule_of t entry.Esac = Idle
+rule_of t _ = Idle
 
 -- the last operand and the ones before it; in the list of a program there is one wherever one is taken
 abbrev pub top : List Kind → Kind

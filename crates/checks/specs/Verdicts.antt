@@ -23,7 +23,8 @@ pub record FaultsStand : Type 0 where
   pub names : (x : Program) (r : Refusal) → Contains (program_names x) r ↔ NameFault x r
   -- 11
   pub types : (x : Program) (r : Refusal) → Contains (program_types x) r ↔ TypeFault x r
-  -- where each name is declared once: its cells lie behind those of the names before it
+  -- Where names are in order, as they are where this stage is reached: then the cells of each lie behind those of the names
+  -- before it.
   pub twelve : (x : Program) → Named x → (p : ℕ) → Contains (program_sizes x) (at 12 p) ↔ OutOfRange x (at 12 p)
   pub thirteen : (x : Program) → Named x → (p : ℕ) → Contains (program_sizes x) (at 13 p) ↔ TooWide x (at 13 p)
   pub sizes : (x : Program) → Named x → (r : Refusal) → Contains (program_sizes x) r ↔ SizeFault x r

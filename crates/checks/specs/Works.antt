@@ -14,7 +14,7 @@ use Rattle.checks.specs.Tabled.{table_as}
 use Rattle.checks.specs.Names.{name_faults, table_from}
 use Rattle.checks.specs.Types.{type_faults}
 use Rattle.checks.specs.Sizes.{size_faults}
-use Rattle.checks.specs.Writing.{typed_list}
+use Rattle.checks.specs.Emitting.{typed_list}
 
 -- the typed list of a source, and its names
 pub record Checked : Type 0 where

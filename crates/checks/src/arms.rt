@@ -1,8 +1,8 @@
 // The arms of each CASE are counted, from the end of the list to its beginning.
-ghost use Rattle.std.specs.Prelude.{◌≡◌, ◌+◌, ◌<◌, ◌≤◌, length};
+ghost use Rattle.std.specs.Prelude.{◌≡◌, ◌+◌, ◌<◌, ◌≤◌, length, [], IfOk};
 ghost use Rattle.syntax.specs.Entries.{entry_of, entries as entries_of};
 ghost use Rattle.words.specs.Stacks.{below};
-ghost use Rattle.checks.specs.Writing.{first, tallied, counted, spent};
+ghost use Rattle.checks.specs.CaseArms.{first, tallied, counted, spent};
 
 use crate::workspace::ENTRIES;
 use std::alloc::{AllocError, Global};
@@ -19,7 +19,7 @@ pub(crate) struct Arms {
 
 impl Model for Arms {
     ghost use Rattle.std.specs.Prelude.{reverse};
-    ghost use Rattle.checks.specs.Writing.{Counts};
+    ghost use Rattle.checks.specs.CaseArms.{Counts};
 
     ghost Value = { Counts };
 
@@ -27,7 +27,9 @@ impl Model for Arms {
 }
 
 impl Arms {
-    pub(crate) fn new(heap: Global) -> Result<Arms, AllocError> {
+    pub(crate) fn new(heap: Global) -> Result<Arms, AllocError>
+        ensures { IfOk result (λ s. s ≡ record { opened = []; closed = [] }) }
+    {
         Ok(Arms {
             opened: Reserved::new(heap)?,
             closed: Reserved::new(heap)?,

@@ -10,7 +10,7 @@ ghost use Rattle.typed.specs.Instrs.{ins};
 ghost use Rattle.typed.specs.Lists.{op_instr};
 ghost use Rattle.checks.specs.Tables.{row_of};
 ghost use Rattle.checks.specs.Tabled.{table_as};
-ghost use Rattle.checks.specs.Writing.{op_of, emits, emits_name, emits_step, emits_mark};
+ghost use Rattle.checks.specs.Emitting.{op_of, emits, emits_name, emits_step, emits_mark};
 ghost use Rattle.checks.specs.Emissions.{items_of, Narrow};
 
 use crate::table::NameTable;

@@ -2,7 +2,7 @@
 ghost use Rattle.std.specs.Prelude.{◌≡◌, ◌+◌, ◌≤◌, [], ◌++◌, length};
 ghost use Rattle.syntax.specs.Entries.{entries as entries_of};
 ghost use Rattle.checks.specs.Tabled.{table_as};
-ghost use Rattle.checks.specs.Writing.{writes};
+ghost use Rattle.checks.specs.Emitting.{writes};
 ghost use Rattle.checks.specs.Emissions.{items_of, Narrow};
 
 use crate::emission::{Emission, emission_of};

@@ -4,13 +4,13 @@ use Rattle.std.proofs.lemmas.List.{get_or-append-add, append_assoc}
 use Rattle.words.specs.declared.instr.Instr.{Instr}
 use Rattle.typed.specs.Instrs.{HALT, LIT, LOAD, STOR, LDX, STX, CHK, DUP, DROP, DEP, BR, BRE, CASE, FOR, NEXT}
 use Rattle.typed.specs.Trees.{Op, add, sub, mul, div, rem, ladd, lsub, lmul, ldiv, lrem, cmp, lcmp, land, lor, lxor, Uop, neg, not, fld, shf, Expr, lit, var, pick, bin, un, Clause, test, and, Cond, only, or, Stmt, assign, fill, deposit, deposit_at, when, either, while, repeat, for, case, Body, end, then, Arms, last, arm, size}
-use Rattle.typed.specs.Code.{end_e, end_l, end_c, end_s, end_b, end_a, table_end, table, code_e, code_l, code_c, code_s, code_b, code_a, program}
+use Rattle.emit.specs.Code.{end_e, end_l, end_c, end_s, end_b, end_a, table_end, table, code_e, code_l, code_c, code_s, code_b, code_a, program}
 use Rattle.typed.specs.Lists.{op_instr, uop_instr, items}
 use Rattle.typed.specs.declared.item.Item.{Item}
 use Rattle.emit.specs.declared.place.Placed.{Placed}
 use Rattle.emit.specs.Items.{emits, places, back, last as final, emitted}
 use Rattle.emit.proofs.Sizes.{stands}
-use Rattle.checks.specs.Writing.{resolve}
+use Rattle.checks.specs.Resolving.{resolve}
 use Rattle.code.specs.Enclosed.{Inside, Encloses, Enclosed}
 use Rattle.code.proofs.Exact.{tree_of}
 

@@ -14,21 +14,29 @@ use Rattle.trees.specs.Trees.{Program}
 use Rattle.trees.specs.Lists.{list}
 use Rattle.grammar.proofs.Exact.{cut_of, reads_the_grammar, one_tree}
 use Rattle.typed.specs.Instrs.{peak}
-use Rattle.typed.specs.Code.{program, depth}
+use Rattle.emit.specs.Code.{program, depth}
 use Rattle.emit.specs.Items.{emitted}
 use Rattle.emit.proofs.Sizes.{stands}
 use Rattle.checks.specs.Faults.{least}
 use Rattle.checks.specs.Names.{program_names}
 use Rattle.checks.specs.Types.{program_types}
 use Rattle.checks.specs.Sizes.{program_sizes}
-use Rattle.checks.specs.Writing.{typed_list, resolve}
+use Rattle.checks.specs.Rules.{Named, Right}
+use Rattle.checks.specs.Verdicts.{Refused, Unrefused}
+use Rattle.checks.specs.Emitting.{typed_list}
+use Rattle.checks.specs.Resolving.{resolve}
 use Rattle.checks.specs.Works.{Checked, earlier, verdict, answered, outcome, judged, checked}
+use Rattle.checks.proofs.Least.{least_decides}
+use Rattle.checks.proofs.NameRules.{named_there, named_back, laid_program}
+use Rattle.checks.proofs.TypeRules.{typed_there, typed_back}
+use Rattle.checks.proofs.SizeRules.{ranged_there, ranged_back}
+use Rattle.checks.proofs.Verdicts.{faults_stand, refused_exactly}
 use Rattle.checks.proofs.OnNames.{table_program, names_program}
 use Rattle.checks.proofs.OnTypes.{types_program}
 use Rattle.checks.proofs.OnSizes.{sizes_program}
 use Rattle.checks.proofs.OnWriting.{typed_program}
-use Rattle.code.specs.Compile.{Code, code_of, fitted, compiled, IsWritten, IsAdmitted, CompiledTree}
-use Rattle.code.specs.Theorems.{code_for, found, Unread, CompilesExactly}
+use Rattle.code.specs.Compile.{Code, code_of, fitted, compiled, IsWritten, CompiledTree}
+use Rattle.code.specs.Theorems.{code_for, Unread, CompilesExactly}
 
 -- the tree that a source is read to, and it is written so
 pub read_to : (source : List ℕ) (es : List Entry) → syntaxed source ≡ Ok es → (p : Program) × IsWritten source p × (list p ≡ es)
@@ -36,6 +44,10 @@ read_to source es h =
     let c = cut_of source es h in
     let w = (reads_the_grammar (length source) c.0 es).0 c.2 in
     (w.0, record { pieces = c.0; cut = c.1; written = w.1 }, w.2)
+
+-- the fault that decides, by the stages' lists of faults
+abbrev found : Program → Option Refusal
+found p = earlier (least (program_names p)) (earlier (least (program_types p)) (least (program_sizes p)))
 
 -- the stages over its list are those of the tree
 verdict_is : (p : Program) → verdict (list p) ≡ found p
@@ -46,11 +58,11 @@ earlier_none : (f g : Option Refusal) → earlier f g ≡ None → (f ≡ None) 
 earlier_none None g e = (refl, e)
 earlier_none (Some f) g e = absurd cc
 
-admitted : (p : Program) → verdict (list p) ≡ None → IsAdmitted p
+admitted : (p : Program) → verdict (list p) ≡ None → Right p
 admitted p h =
     let a = earlier_none (least (program_names p)) (earlier (least (program_types p)) (least (program_sizes p))) (sym (verdict_is p) ∙ h) in
     let b = earlier_none (least (program_types p)) (least (program_sizes p)) a.1 in
-    record { names = a.0; types = b.0; sizes = b.1 }
+    record { names = named_there p a.0; types = typed_there p b.0; sizes = ranged_there p b.1 }
 
 -- the code of a tree, by the rules
 emitted_is : (p : Program) → emitted (typed_list (list p)) ≡ program (resolve p)
@@ -96,12 +108,13 @@ pub tree_of : (source : List ℕ) (room : ℕ) (c : Code) →
 tree_of source room c h =
     let a = compiled_ok source room c h in
     let w = read_to source a.0 a.1 in
-    let e : code_of (outcome (list w.0)) ≡ c = ap (λ es. code_of (outcome es)) w.2 ∙ a.3 in (
+    let e : code_of (outcome (list w.0)) ≡ c = ap (λ es. code_of (outcome es)) w.2 ∙ a.3 in
+    let r = admitted w.0 (ap verdict w.2 ∙ a.2) in (
       w.0,
       record {
         written = w.1;
-        admitted = admitted w.0 (ap verdict w.2 ∙ a.2);
-        cells = sym (ap (λ (k : Code). k.cells) e) ∙ ap (λ t. t.cells) (table_program w.0);
+        admitted = r;
+        cells = sym (ap (λ (k : Code). k.cells) e) ∙ ap (λ t. t.cells) (table_program w.0 ∙ laid_program w.0 r.names);
         depth = sym (ap (λ (k : Code). k.depth) e) ∙ ap (peak 0) (emitted_is w.0) ∙ depth_is (resolve w.0);
         instrs = sym (ap (λ (k : Code). k.instrs) e) ∙ emitted_is w.0;
       },
@@ -113,9 +126,9 @@ listed : (source : List ℕ) (p : Program) → IsWritten source p → syntaxed s
 unfolding syntaxed
 listed source p w = ap (λ x. then x (parse (length source))) w.cut ∙ (reads_the_grammar (length source) w.pieces (list p)).1 (p, w.written, refl)
 
-code_is : (p : Program) → code_of (outcome (list p)) ≡ code_for p
+code_is : (p : Program) → Named p → code_of (outcome (list p)) ≡ code_for p
 unfolding depth
-code_is p = rw (table_program p, emitted_is p) refl
+code_is p n = rw (table_program p, laid_program p n, emitted_is p) refl
 
 -- by what the stages find in the tree
 found_is : (source : List ℕ) (room : ℕ) (p : Program) → IsWritten source p →
@@ -123,33 +136,48 @@ found_is : (source : List ℕ) (room : ℕ) (p : Program) → IsWritten source p
 unfolding compiled checked judged
 found_is source room p w = rw (listed source p w, verdict_is p) refl
 
-found_none : (p : Program) → IsAdmitted p → found p ≡ None
-found_none p a = rw (a.names, a.types, a.sizes) refl
+found_none : (p : Program) → Right p → found p ≡ None
+found_none p r = rw (named_back p r.names, typed_back p r.types, ranged_back p r.sizes) refl
 
-fits : (source : List ℕ) (room : ℕ) (p : Program) → IsWritten source p → IsAdmitted p → compiled source room ≡ fitted room (length source) (code_for p)
+fits : (source : List ℕ) (room : ℕ) (p : Program) → IsWritten source p → Right p → compiled source room ≡ fitted room (length source) (code_for p)
 fits source room p w a =
     found_is source room p w
     ∙ ap (λ o. then (answered o (outcome (list p))) (λ c. fitted room (length source) (code_of c))) (found_none p a)
-    ∙ ap (fitted room (length source)) (code_is p)
+    ∙ ap (fitted room (length source)) (code_is p a.names)
 
 each : (source : List ℕ) (room : ℕ) (p : Program) →
-    IsWritten source p → IsAdmitted p → length (program (resolve p)) ≤ min 16383 room → compiled source room ≡ Ok (code_for p)
+    IsWritten source p → Right p → length (program (resolve p)) ≤ min 16383 room → compiled source room ≡ Ok (code_for p)
 each source room p w a l = fits source room p w a ∙ ap (λ b. cond b (Ok (code_for p)) (refuse 14 (length source))) (le-leb _ _ l)
 
 long : (source : List ℕ) (room : ℕ) (p : Program) →
-    IsWritten source p → IsAdmitted p → min 16383 room < length (program (resolve p)) → compiled source room ≡ refuse 14 (length source)
+    IsWritten source p → Right p → min 16383 room < length (program (resolve p)) → compiled source room ≡ refuse 14 (length source)
 long source room p w a l = fits source room p w a ∙ ap (λ b. cond b (Ok (code_for p)) (refuse 14 (length source))) (lt-leb _ _ l)
 
-faulty : (source : List ℕ) (room : ℕ) (p : Program) (f : Refusal) → IsWritten source p → found p ≡ Some f → compiled source room ≡ Err f
-faulty source room p f w e = found_is source room p w ∙ ap (λ o. then (answered o (outcome (list p))) (λ c. fitted room (length source) (code_of c))) e
+faulty : (source : List ℕ) (room : ℕ) (p : Program) (f : Refusal) → IsWritten source p → Refused p f → compiled source room ≡ Err f
+unfolding compiled
+faulty source room p f w r = ap (λ x. then x (λ c. fitted room (length source) (code_of c))) ((refused_exactly.refused source p (listed source p w) f).1 r)
 
 unread : (source : List ℕ) (room : ℕ) (f : Refusal) → Unread source f → compiled source room ≡ Err f
 unfolding compiled checked syntaxed
 unread source room f (inl e) = rw e refl
 unread source room f (inr x) = rw (x.1, x.2) refl
 
-in_order : (p : Program) → found p ≡ None → IsAdmitted p
-in_order p h = admitted p (verdict_is p ∙ h)
+-- a tree keeps the rules exactly where no fault stands in it
+unrefused : (p : Program) → Right p → Unrefused p
+unrefused p r = (
+  λ f x. (least_decides.none (program_names p)).0 (named_back p r.names) f ((faults_stand.names p f).1 x),
+  λ f x. (least_decides.none (program_types p)).0 (typed_back p r.types) f ((faults_stand.types p f).1 x),
+  λ f x. (least_decides.none (program_sizes p)).0 (ranged_back p r.sizes) f ((faults_stand.sizes p r.names f).1 x),
+)
+
+right : (p : Program) → Unrefused p → Right p
+right p u =
+    let n = named_there p ((least_decides.none (program_names p)).1 (λ f c. u.0 f ((faults_stand.names p f).0 c))) in
+    record {
+      names = n;
+      types = typed_there p ((least_decides.none (program_types p)).1 (λ f c. u.1 f ((faults_stand.types p f).0 c)));
+      sizes = ranged_there p ((least_decides.none (program_sizes p)).1 (λ f c. u.2 f ((faults_stand.sizes p n f).0 c)));
+    }
 
 one : (source : List ℕ) (p q : Program) → IsWritten source p → IsWritten source q → p ≡ q
 one source p q v w =
@@ -184,6 +212,6 @@ compiles_exactly =
       each = each;
       unread = unread;
       faulty = faulty;
-      admitted = λ p. (found_none p, in_order p);
+      admitted = λ p. (unrefused p, right p);
       long = long;
     }

@@ -9,7 +9,7 @@ use Rattle.checks.specs.Names.{used, entering}
 use Rattle.checks.specs.Sizes.{cells_at}
 use Rattle.checks.specs.Tables.{row_of, declare}
 use Rattle.checks.specs.Works.{verdict, judged, checked}
-use Rattle.checks.specs.Writing.{typed_list}
+use Rattle.checks.specs.Emitting.{typed_list}
 use Rattle.typed.specs.Instrs.{peak}
 use Rattle.emit.specs.Items.{emitted}
 use Rattle.image.specs.Codes.{entry_bytes, image, good_entry, good_header}

@@ -4,8 +4,8 @@ use Rattle.words.specs.declared.instr.Instr.{Instr}
 use Rattle.typed.specs.Instrs.{peak}
 use Rattle.words.specs.Heights.{height}
 use Rattle.typed.specs.Trees.{Body}
-use Rattle.typed.specs.Code.{program, depth}
-use Rattle.checks.specs.Writing.{resolve}
+use Rattle.emit.specs.Code.{program, depth}
+use Rattle.checks.specs.Resolving.{resolve}
 use Rattle.code.specs.Heights.{stacked, Deepest, Deep}
 use Rattle.code.proofs.Exact.{tree_of}
 

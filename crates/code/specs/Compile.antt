@@ -9,12 +9,9 @@ use Rattle.syntax.specs.Marks.{seen}
 use Rattle.trees.specs.Trees.{Program}
 use Rattle.grammar.specs.Grammar.{ProgramWritten}
 use Rattle.typed.specs.Instrs.{peak}
-use Rattle.typed.specs.Code.{program, depth}
-use Rattle.checks.specs.Faults.{least}
-use Rattle.checks.specs.Names.{program_names, program_table}
-use Rattle.checks.specs.Types.{program_types}
-use Rattle.checks.specs.Sizes.{program_sizes}
-use Rattle.checks.specs.Writing.{resolve}
+use Rattle.emit.specs.Code.{program, depth}
+use Rattle.checks.specs.Rules.{Right, widths}
+use Rattle.checks.specs.Resolving.{resolve}
 use Rattle.syntax.specs.Works.{syntaxed}
 use Rattle.checks.specs.declared.workspace.Workspace.{Workspace}
 use Rattle.checks.specs.Works.{Checked, checked, holds, nothing, nodes_of, entries_from}
@@ -45,17 +42,12 @@ pub record IsWritten (source : List ℕ) (p : Program) : Type 0 where
   pub cut : texted source ≡ Ok pieces
   pub written : ProgramWritten 32 p (map seen pieces)
 
--- its names, its types and its sizes are in order
-pub record IsAdmitted (p : Program) : Type 0 where
-  pub names : least (program_names p) ≡ None
-  pub types : least (program_types p) ≡ None
-  pub sizes : least (program_sizes p) ≡ None
-
--- the tree of an accepted source, and the code, cells and depth that the rules give for it
+-- the tree of an accepted source, which keeps the rules of names, types and sizes, and the code, cells and depth that the rules
+-- give for it
 pub record CompiledTree (source : List ℕ) (p : Program) (c : Code) : Type 0 where
   pub written : IsWritten source p
-  pub admitted : IsAdmitted p
-  pub cells : c.cells ≡ (program_table p).cells
+  pub admitted : Right p
+  pub cells : c.cells ≡ widths p.decls
   pub depth : c.depth ≡ depth (resolve p)
   pub instrs : c.instrs ≡ program (resolve p)
 

@@ -3,7 +3,7 @@ use Rattle.std.specs.Prelude.{◌≡◌, ℕ, ◌+◌, ◌<◌, ◌≤◌, List,
 use Rattle.words.specs.declared.instr.Instr.{Instr}
 use Rattle.typed.specs.Instrs.{HALT}
 use Rattle.typed.specs.Trees.{Body}
-use Rattle.typed.specs.Code.{program}
+use Rattle.emit.specs.Code.{program}
 use Rattle.code.specs.Compile.{Code, compiled}
 
 -- the instructions that go somewhere: BR and BRE by their first operand, FOR and NEXT by their second, and CASE to one of

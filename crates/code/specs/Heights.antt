@@ -3,7 +3,7 @@ use Rattle.std.specs.Prelude.{◌≡◌, ℕ, ◌≤◌, List, [], ◌∷◌, �
 use Rattle.words.specs.declared.instr.Instr.{Instr}
 use Rattle.words.specs.Heights.{height}
 use Rattle.typed.specs.Trees.{Body}
-use Rattle.typed.specs.Code.{program, depth}
+use Rattle.emit.specs.Code.{program, depth}
 use Rattle.code.specs.Compile.{Code, compiled}
 
 -- the words stacked after these instructions, of an empty stack, by what each takes and leaves

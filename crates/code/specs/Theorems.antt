@@ -5,22 +5,15 @@ use Rattle.words.specs.Refusals.{refuse}
 use Rattle.text.specs.Cut.{Piece, texted}
 use Rattle.syntax.specs.Works.{parse}
 use Rattle.trees.specs.Trees.{Program}
-use Rattle.typed.specs.Code.{program, depth}
-use Rattle.checks.specs.Faults.{least}
-use Rattle.checks.specs.Names.{program_names, program_table}
-use Rattle.checks.specs.Types.{program_types}
-use Rattle.checks.specs.Sizes.{program_sizes}
-use Rattle.checks.specs.Works.{earlier}
-use Rattle.checks.specs.Writing.{resolve}
-use Rattle.code.specs.Compile.{Code, compiled, IsWritten, IsAdmitted, CompiledTree}
+use Rattle.emit.specs.Code.{program, depth}
+use Rattle.checks.specs.Rules.{Right, widths}
+use Rattle.checks.specs.Verdicts.{Refused, Unrefused}
+use Rattle.checks.specs.Resolving.{resolve}
+use Rattle.code.specs.Compile.{Code, compiled, IsWritten, CompiledTree}
 
 -- the code, the cells and the depth that the rules give for a tree
 abbrev pub code_for : Program → Code
-code_for p = record { cells = (program_table p).cells; depth = depth (resolve p); instrs = program (resolve p) }
-
--- the fault that decides: of the first stage that finds one, and of its faults the one at the smallest place
-abbrev pub found : Program → Option Refusal
-found p = earlier (least (program_names p)) (earlier (least (program_types p)) (least (program_sizes p)))
+code_for p = record { cells = widths p.decls; depth = depth (resolve p); instrs = program (resolve p) }
 
 -- the text is refused so; or it is cut, and the grammar refuses its tokens so
 abbrev pub Unread : List ℕ → Refusal → Type 0
@@ -36,12 +29,12 @@ pub record CompilesExactly : Type 0 where
       compiled source room ≡ Ok c → (p : Program) × CompiledTree source p c × (length c.instrs ≤ min 16383 room)
   -- and the code of each such tree is answered
   pub each : (source : List ℕ) (room : ℕ) (p : Program) →
-      IsWritten source p → IsAdmitted p → length (program (resolve p)) ≤ min 16383 room → compiled source room ≡ Ok (code_for p)
+      IsWritten source p → Right p → length (program (resolve p)) ≤ min 16383 room → compiled source room ≡ Ok (code_for p)
   -- The first refusal. Of the text or the grammar:
   pub unread : (source : List ℕ) (room : ℕ) (f : Refusal) → Unread source f → compiled source room ≡ Err f
-  -- of the first stage that finds a fault in the tree, and it is in order exactly where none does;
-  pub faulty : (source : List ℕ) (room : ℕ) (p : Program) (f : Refusal) → IsWritten source p → found p ≡ Some f → compiled source room ≡ Err f
-  pub admitted : (p : Program) → IsAdmitted p ↔ (found p ≡ None)
+  -- of the first stage in whose rules a fault stands in the tree, and the tree keeps the rules exactly where none does;
+  pub faulty : (source : List ℕ) (room : ℕ) (p : Program) (f : Refusal) → IsWritten source p → Refused p f → compiled source room ≡ Err f
+  pub admitted : (p : Program) → Right p ↔ Unrefused p
   -- of code that is too long
   pub long : (source : List ℕ) (room : ℕ) (p : Program) →
-      IsWritten source p → IsAdmitted p → min 16383 room < length (program (resolve p)) → compiled source room ≡ refuse 14 (length source)
+      IsWritten source p → Right p → min 16383 room < length (program (resolve p)) → compiled source room ≡ refuse 14 (length source)

@@ -9,7 +9,7 @@ use Rattle.typed.specs.Instrs.{HALT, peak}
 use Rattle.words.specs.Heights.{up, down, height}
 use Rattle.typed.specs.Trees.{Body}
 use Rattle.typed.specs.Lists.{items}
-use Rattle.typed.specs.Code.{depth}
+use Rattle.emit.specs.Code.{depth}
 use Rattle.emit.specs.declared.place.Aim.{Aim}
 use Rattle.emit.specs.Items.{go, emits, next, starts, ends, table, emitted}
 use Rattle.emit.specs.Measure.{stacked, deepest}

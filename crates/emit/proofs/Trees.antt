@@ -6,7 +6,7 @@ use Rattle.typed.specs.declared.item.Item.TheVariants as item
 use Rattle.typed.specs.Instrs.{BR, BRE, CASE, DROP, CHK, DUP, LDX, LOAD}
 use Rattle.typed.specs.Trees.{Expr, lit, var, pick, bin, un, Clause, test, and, Cond, only, or, Stmt, assign, fill, deposit, deposit_at, when, either, while, repeat, for, case, Body, end, then, Arms, last, arm, size}
 use Rattle.typed.specs.Lists.{items_e, items_l, items_c, items_s, items_b, items_a, items}
-use Rattle.typed.specs.Code.{end_e, end_l, end_c, end_s, end_b, end_a, table_end, table as branches, code_e, code_l, code_c, code_s, code_b, code_a, program}
+use Rattle.emit.specs.Code.{end_e, end_l, end_c, end_s, end_b, end_a, table_end, table as branches, code_e, code_l, code_c, code_s, code_b, code_a, program}
 use Rattle.emit.specs.declared.place.Aim.{Aim}
 use Rattle.words.specs.Stacks.{below}
 use Rattle.emit.specs.Items.{Back, go, aims, top, along, table, without, emitted}

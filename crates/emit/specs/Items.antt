@@ -29,42 +29,23 @@ abbrev pub next : Item → ℕ → ℕ
 next (item.Plain i) p = suc p
 next item.Test p = suc p
 next item.Or p = suc p
-next item.If p = p
-next item.Then p = p
 next item.Else p = suc p
-next item.Fi p = p
-next item.While p = p
 next item.Loop p = suc p
-next item.Do p = p
-next item.Until p = p
-next item.Done p = p
 next (item.For c) p = suc p
 next (item.Next c) p = suc p
 next (item.Case n) p = along n (suc p)
-next item.Arm p = p
 next item.Out p = suc p
-next item.Esac p = p
+next _ p = p
 
 -- the starts of the open loops, after an item at p
 abbrev pub starts : Item → ℕ → List ℕ → List ℕ
-starts (item.Plain i) p ss = ss
-starts item.Test p ss = ss
-starts item.Or p ss = ss
-starts item.If p ss = ss
-starts item.Then p ss = ss
-starts item.Else p ss = ss
-starts item.Fi p ss = ss
 starts item.While p ss = p ∷ ss
 starts item.Loop p ss = below ss
 starts item.Do p ss = p ∷ ss
-starts item.Until p ss = ss
 starts item.Done p ss = below ss
 starts (item.For c) p ss = p ∷ ss
 starts (item.Next c) p ss = below ss
-starts (item.Case n) p ss = ss
-starts item.Arm p ss = ss
-starts item.Out p ss = ss
-starts item.Esac p ss = ss
+starts _ p ss = ss
 
 abbrev pub placed : Item → ℕ → List ℕ → Placed
 placed n p ss = record { item = n; place = p; after = next n p; start = hd ss }
@@ -93,21 +74,13 @@ abbrev pub emits : Item → (p q s : ℕ) → List Aim → List Instr
 emits (item.Plain i) p q s ts = i ∷ []
 emits item.Test p q s ts = BRE (top ts).no ∷ []
 emits item.Or p q s ts = BR (top ts).yes ∷ []
-emits item.If p q s ts = []
-emits item.Then p q s ts = []
 emits item.Else p q s ts = BR (top ts).no ∷ []
-emits item.Fi p q s ts = []
-emits item.While p q s ts = []
 emits item.Loop p q s ts = BR s ∷ []
-emits item.Do p q s ts = []
-emits item.Until p q s ts = []
-emits item.Done p q s ts = []
 emits (item.For c) p q s ts = FOR c (top ts).no ∷ []
 emits (item.Next c) p q s ts = NEXT c s ∷ []
 emits (item.Case n) p q s ts = CASE (suc p) n ∷ table n ts
-emits item.Arm p q s ts = []
 emits item.Out p q s ts = BR (top ts).yes ∷ []
-emits item.Esac p q s ts = []
+emits _ p q s ts = []
 
 -- what is open before the item
 abbrev pub opens : Item → (p q s : ℕ) → List Aim → List Aim

@@ -1,3 +1,4 @@
+pub mod Code
 pub mod Items
 pub mod Passes
 pub mod Measure

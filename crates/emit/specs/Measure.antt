@@ -13,22 +13,10 @@ use Rattle.emit.specs.Items.{ends, emitted}
 abbrev pub stacked : Item → ℕ → ℕ
 stacked (item.Plain i) h = height i h
 stacked item.Test h = down 1 h
-stacked item.Or h = h
-stacked item.If h = h
-stacked item.Then h = h
-stacked item.Else h = h
-stacked item.Fi h = h
-stacked item.While h = h
-stacked item.Loop h = h
-stacked item.Do h = h
-stacked item.Until h = h
-stacked item.Done h = h
 stacked (item.For c) h = up 2 (down 2 h)
 stacked (item.Next c) h = up 2 (down 2 h)
 stacked (item.Case n) h = down 1 h
-stacked item.Arm h = h
-stacked item.Out h = h
-stacked item.Esac h = h
+stacked _ h = h
 
 -- the largest running total from h on
 abbrev pub deepest : List Item → ℕ → ℕ

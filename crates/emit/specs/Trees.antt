@@ -4,7 +4,7 @@ use Rattle.typed.specs.declared.item.Item.{Item}
 use Rattle.typed.specs.Instrs.{peak}
 use Rattle.typed.specs.Trees.{Body}
 use Rattle.typed.specs.Lists.{items}
-use Rattle.typed.specs.Code.{program, depth}
+use Rattle.emit.specs.Code.{program, depth}
 use Rattle.emit.specs.Items.{emitted, ends}
 use Rattle.emit.specs.Measure.{deepest}
 

@@ -38,6 +38,7 @@ pub lawful : Lawful
 lawful =
     record {
       numbers = numbers;
+      numbers_back = (refl, refl, refl, refl, refl, refl, refl, refl, refl);
       named = rules;
       counts = steps_step;
       ends = ends_step;

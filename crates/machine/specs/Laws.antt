@@ -43,6 +43,10 @@ Named n (o ∷ os) = ((a b : ℕ) → fine o a b ≡ true → Unnamed (operands_
 pub record Lawful : Type 0 where
   -- an ending has the number by which the definitions name it
   pub numbers : (e : Ending) → numbered (number_of e) ≡ e
+  pub numbers_back :
+      (number_of (numbered 0) ≡ 0) × (number_of (numbered 1) ≡ 1) × (number_of (numbered 2) ≡ 2) × (number_of (numbered 3) ≡ 3)
+      × (number_of (numbered 4) ≡ 4) × (number_of (numbered 6) ≡ 6) × (number_of (numbered 7) ≡ 7) × (number_of (numbered 8) ≡ 8)
+      × (number_of (numbered 9) ≡ 9)
   -- the operands' rules go with the table of the operands that each instruction names
   pub named : Named 0 ops
   -- each step of a machine that has not ended counts one

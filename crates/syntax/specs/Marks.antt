@@ -63,11 +63,8 @@ seen (piece.symbol s p) = record { sort = symbol s; place = p }
 
 -- the end of the text is no token
 abbrev pub live : Mark → ℕ
-live (keyword w) = 1
-live (symbol s) = 1
-live (name n) = 1
-live (number k v) = 1
 live stop = 0
+live _ = 1
 
 -- symbols, reserved words and strengths are told apart as their derived `==` does
 abbrev pub same_symbol : Symbol → Symbol → Bool
@@ -82,25 +79,16 @@ same_strength = strength_eq.ghosts.eq
 -- this symbol, this reserved word
 abbrev pub is_symbol : Symbol → Mark → Bool
 is_symbol s (symbol x) = same_symbol s x
-is_symbol s (keyword w) = false
-is_symbol s (name n) = false
-is_symbol s (number k v) = false
-is_symbol s stop = false
+is_symbol s _ = false
 
 abbrev pub is_keyword : Keyword → Mark → Bool
 is_keyword w (keyword x) = same_keyword w x
-is_keyword w (symbol s) = false
-is_keyword w (name n) = false
-is_keyword w (number k v) = false
-is_keyword w stop = false
+is_keyword w _ = false
 
 -- the reserved word that a mark is; what a class of reserved words answers there
 abbrev pub word_at : Mark → Option Keyword
 word_at (keyword w) = Some w
-word_at (symbol s) = None
-word_at (name n) = None
-word_at (number k v) = None
-word_at stop = None
+word_at _ = None
 
 abbrev pub and_then : {A : Type 0} → (Keyword → Option A) → Option Keyword → Option A
 and_then f None = None
@@ -117,121 +105,35 @@ decimal_of stop = None
 
 abbrev pub spelled_of : Mark → Option (List ℕ)
 spelled_of (name n) = Some n
-spelled_of (keyword w) = None
-spelled_of (symbol s) = None
-spelled_of (number k v) = None
-spelled_of stop = None
+spelled_of _ = None
 
 -- the types
 abbrev pub kind_word : Keyword → Option Kind
-kind_word word.Begin = None
-kind_word word.End = None
 kind_word word.Integer = Some kind.Integer
 kind_word word.Logical = Some kind.Logical
-kind_word word.Array = None
-kind_word word.If = None
-kind_word word.Then = None
-kind_word word.Else = None
-kind_word word.Case = None
-kind_word word.Of = None
-kind_word word.While = None
-kind_word word.Do = None
-kind_word word.Until = None
-kind_word word.For = None
-kind_word word.Step = None
-kind_word word.Or = None
-kind_word word.And = None
-kind_word word.Mod = None
-kind_word word.Lnot = None
-kind_word word.Land = None
-kind_word word.Xor = None
-kind_word word.Lor = None
-kind_word word.Lsl = None
-kind_word word.Lsr = None
-kind_word word.Asr = None
-kind_word word.Csl = None
-kind_word word.Csr = None
-kind_word word.True = None
-kind_word word.False = None
-kind_word word.Comment = None
+kind_word _ = None
 
 -- the shifts
 abbrev pub shift_word : Keyword → Option ShiftKind
-shift_word word.Begin = None
-shift_word word.End = None
-shift_word word.Integer = None
-shift_word word.Logical = None
-shift_word word.Array = None
-shift_word word.If = None
-shift_word word.Then = None
-shift_word word.Else = None
-shift_word word.Case = None
-shift_word word.Of = None
-shift_word word.While = None
-shift_word word.Do = None
-shift_word word.Until = None
-shift_word word.For = None
-shift_word word.Step = None
-shift_word word.Or = None
-shift_word word.And = None
-shift_word word.Mod = None
-shift_word word.Lnot = None
-shift_word word.Land = None
-shift_word word.Xor = None
-shift_word word.Lor = None
 shift_word word.Lsl = Some shift.Lsl
 shift_word word.Lsr = Some shift.Lsr
 shift_word word.Asr = Some shift.Asr
 shift_word word.Csl = Some shift.Csl
 shift_word word.Csr = Some shift.Csr
-shift_word word.True = None
-shift_word word.False = None
-shift_word word.Comment = None
+shift_word _ = None
 
 -- the operators
 abbrev pub operator_word : Keyword → Option Operator
-operator_word word.Begin = None
-operator_word word.End = None
-operator_word word.Integer = None
-operator_word word.Logical = None
-operator_word word.Array = None
-operator_word word.If = None
-operator_word word.Then = None
-operator_word word.Else = None
-operator_word word.Case = None
-operator_word word.Of = None
-operator_word word.While = None
-operator_word word.Do = None
-operator_word word.Until = None
-operator_word word.For = None
-operator_word word.Step = None
-operator_word word.Or = None
-operator_word word.And = None
 operator_word word.Mod = Some operator.Mod
-operator_word word.Lnot = None
 operator_word word.Land = Some operator.Land
 operator_word word.Xor = Some operator.Xor
 operator_word word.Lor = Some operator.Lor
-operator_word word.Lsl = None
-operator_word word.Lsr = None
-operator_word word.Asr = None
-operator_word word.Csl = None
-operator_word word.Csr = None
-operator_word word.True = None
-operator_word word.False = None
-operator_word word.Comment = None
+operator_word _ = None
 
 abbrev pub operator_sign : Symbol → Option Operator
-operator_sign sign.Becomes = None
 operator_sign sign.Unequal = Some operator.Unequal
 operator_sign sign.AtMost = Some operator.AtMost
 operator_sign sign.AtLeast = Some operator.AtLeast
-operator_sign sign.Semicolon = None
-operator_sign sign.Comma = None
-operator_sign sign.Dot = None
-operator_sign sign.Open = None
-operator_sign sign.Close = None
-operator_sign sign.Colon = None
 operator_sign sign.Equal = Some operator.Equal
 operator_sign sign.Less = Some operator.Less
 operator_sign sign.Greater = Some operator.Greater
@@ -239,73 +141,23 @@ operator_sign sign.Plus = Some operator.Plus
 operator_sign sign.Minus = Some operator.Minus
 operator_sign sign.Times = Some operator.Times
 operator_sign sign.Divide = Some operator.Divide
-operator_sign sign.Ampersand = None
+operator_sign _ = None
 
 -- TRUE and FALSE
 abbrev pub truth_word : Keyword → Option ℕ
-truth_word word.Begin = None
-truth_word word.End = None
-truth_word word.Integer = None
-truth_word word.Logical = None
-truth_word word.Array = None
-truth_word word.If = None
-truth_word word.Then = None
-truth_word word.Else = None
-truth_word word.Case = None
-truth_word word.Of = None
-truth_word word.While = None
-truth_word word.Do = None
-truth_word word.Until = None
-truth_word word.For = None
-truth_word word.Step = None
-truth_word word.Or = None
-truth_word word.And = None
-truth_word word.Mod = None
-truth_word word.Lnot = None
-truth_word word.Land = None
-truth_word word.Xor = None
-truth_word word.Lor = None
-truth_word word.Lsl = None
-truth_word word.Lsr = None
-truth_word word.Asr = None
-truth_word word.Csl = None
-truth_word word.Csr = None
 truth_word word.True = Some 65535
 truth_word word.False = Some 0
-truth_word word.Comment = None
+truth_word _ = None
 
 -- what a reserved word opens where a statement may begin
 abbrev pub opening_word : Keyword → Option Opening
 opening_word word.Begin = Some opening.Block
-opening_word word.End = None
-opening_word word.Integer = None
-opening_word word.Logical = None
-opening_word word.Array = None
 opening_word word.If = Some opening.Conditional
-opening_word word.Then = None
-opening_word word.Else = None
 opening_word word.Case = Some opening.Choice
-opening_word word.Of = None
 opening_word word.While = Some opening.Ahead
 opening_word word.Do = Some opening.Behind
-opening_word word.Until = None
 opening_word word.For = Some opening.Counted
-opening_word word.Step = None
-opening_word word.Or = None
-opening_word word.And = None
-opening_word word.Mod = None
-opening_word word.Lnot = None
-opening_word word.Land = None
-opening_word word.Xor = None
-opening_word word.Lor = None
-opening_word word.Lsl = None
-opening_word word.Lsr = None
-opening_word word.Asr = None
-opening_word word.Csl = None
-opening_word word.Csr = None
-opening_word word.True = None
-opening_word word.False = None
-opening_word word.Comment = None
+opening_word _ = None
 
 abbrev pub kind_of : Mark → Option Kind
 kind_of m = and_then kind_word (word_at m)
@@ -337,10 +189,7 @@ opening_of m = and_then opening_word (word_at m)
 
 abbrev pub is_stop : Mark → Bool
 is_stop stop = true
-is_stop (keyword w) = false
-is_stop (symbol s) = false
-is_stop (name n) = false
-is_stop (number k v) = false
+is_stop _ = false
 
 -- the strength of an operator, from the weakest
 abbrev pub strength_of : Operator → Strength

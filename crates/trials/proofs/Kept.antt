@@ -2,9 +2,8 @@
 use Rattle.std.proofs.Common.{◌≡◌, ℕ, ◌<◌, ◌≤◌, min, Bool, true, false, ◌⊎◌, cond, ltb, List, length, Ok, Err, Result, refl, inl, inr, arith}
 use Rattle.std.proofs.lemmas.Bool.{ltb-true, ltb-false, ne_eqb, le-ltb}
 use Rattle.trees.specs.Trees.{Program}
-use Rattle.typed.specs.Code.{program, depth}
-use Rattle.checks.specs.Names.{program_table}
-use Rattle.checks.specs.Writing.{resolve}
+use Rattle.emit.specs.Code.{program, depth}
+use Rattle.checks.specs.Resolving.{resolve}
 use Rattle.code.specs.Compile.{Code, compiled, CompiledTree}
 use Rattle.code.proofs.Exact.{tree_of}
 use Rattle.machine.specs.Machine.{state}
@@ -18,8 +17,9 @@ use Rattle.words.specs.Refusals.{refuse}
 use Rattle.agreement.specs.Sessions.{limits, Promise}
 use Rattle.trials.specs.Trials.{Lending, lent_as, Makes, Tried, Lacks, Unstarted}
 use Rattle.trials.specs.Promised.{Served, Promised}
-use Rattle.agreement.proofs.Calls.{fits, kept}
-use Rattle.agreement.proofs.Admitted.{admitted_within}
+use Rattle.agreement.proofs.Calls.{fits}
+use Rattle.agreement.proofs.Ruled.{keeps_step}
+use Rattle.checks.specs.Rules.{widths}
 use Rattle.agreement.proofs.Whole.{some_code}
 
 -- the rows of start, for the stack and the store, and all three
@@ -61,8 +61,8 @@ module _ (source : List ℕ) (p : Program) (c : Code) (w : CompiledTree source p
   keeps st σ d n xs =
       let low : length (program (resolve p)) ≤ 16383 = rw w.instrs at short in
       let lent : depth (resolve p) ≤ length st = rw w.depth at d in
-      let there : (program_table p).cells ≤ length σ = rw w.cells at n in
-      rw (w.cells, w.depth, w.instrs) (kept (resolve p) (program_table p).cells st σ (admitted_within p w.admitted.names w.admitted.sizes) low lent there xs)
+      let there : widths p.decls ≤ length σ = rw w.cells at n in
+      rw (w.cells, w.depth, w.instrs) (keeps_step p st σ w.admitted low lent there xs)
 
   serves : Served source c
   serves =

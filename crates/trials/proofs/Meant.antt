@@ -2,17 +2,15 @@
 use Rattle.std.proofs.Common.{ℕ, ◌≤◌, List, length, replicate, sym, ap, ◌∙◌, arith}
 use Rattle.std.proofs.lemmas.List.{length-replicate, take_all}
 use Rattle.trees.specs.Trees.{Program}
-use Rattle.typed.specs.Code.{depth}
-use Rattle.checks.specs.Names.{program_table}
-use Rattle.checks.specs.Writing.{resolve}
+use Rattle.emit.specs.Code.{depth}
+use Rattle.checks.specs.Resolving.{resolve}
 use Rattle.machine.specs.Machine.{State, state, run}
 use Rattle.meaning.specs.Effects.{Store, leave, writes_of}
-use Rattle.meaning.specs.Meaning.{exec, Within}
-use Rattle.meaning.proofs.Cells.{confined}
+use Rattle.meaning.specs.Meaning.{exec}
 use Rattle.machine.specs.Sessions.{begun}
 use Rattle.agreement.specs.Agreement.{Agrees, after}
-use Rattle.agreement.proofs.Whole.{agreement}
-use Rattle.agreement.proofs.Admitted.{admitted_within}
+use Rattle.agreement.proofs.Ruled.{agrees as keeps_source}
+use Rattle.checks.specs.Rules.{widths}
 use Rattle.code.specs.Compile.{Code, CompiledTree}
 use Rattle.code.proofs.Exact.{tree_of}
 use Rattle.trials.specs.Examples.{Outcome, Run, OnMachine, Meant}
@@ -24,10 +22,9 @@ module _ (text : List ℕ) (p : Program) (c : Code) (w : CompiledTree text p c) 
   agrees : Agrees σ (depth (resolve p)) (λ k. exec (resolve p) k σ) machine
   unfolding machine after
   agrees =
-      let cells : (program_table p).cells ≤ length σ = rw w.cells at there in
-      let within : Within (resolve p) (length σ) = confined.more (resolve p) (program_table p).cells (length σ) cells (admitted_within p w.admitted.names w.admitted.sizes) in
+      let cells : widths p.decls ≤ length σ = rw w.cells at there in
       let lent : depth (resolve p) ≤ length (replicate (depth (resolve p)) 0) = omega (arith, length-replicate {A = ℕ} (depth (resolve p)) 0) in
-      rw (w.depth, w.instrs) ((agreement (resolve p) (replicate (depth (resolve p)) 0) σ within lent).always m)
+      rw (w.depth, w.instrs) ((keeps_source p (replicate (depth (resolve p)) 0) σ w.admitted cells lent).always m)
 
 pub meant : (r : Run) → OnMachine r → r.code.cells ≤ length r.cells → Meant r
 unfolding machine

@@ -3,7 +3,7 @@
 use Rattle.std.specs.Prelude.{◌≡◌, ℕ, List, [], ◌∷◌, ◌++◌, length, map, replicate, codes, Some, Ok, Option}
 use Rattle.arith.specs.declared.stop.Stop.TheVariants.{Overflow, ZeroDivisor, BadIndex, BadCase}
 use Rattle.trees.specs.Trees.{Program}
-use Rattle.checks.specs.Writing.{resolve}
+use Rattle.checks.specs.Resolving.{resolve}
 use Rattle.words.specs.declared.instr.Instr.{Instr}
 use Rattle.typed.specs.Instrs.{ins, HALT, LIT, LOAD, STOR, STX, CHK, DROP, BR, BRE, CASE, FOR, NEXT}
 use Rattle.machine.specs.declared.ending.Ending.{Ending}

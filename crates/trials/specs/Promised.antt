@@ -1,7 +1,7 @@
 -- The promise for whoever makes the calls of a session with what a source is compiled to.
 use Rattle.std.specs.Prelude.{◌≡◌, ℕ, ◌≤◌, List, length, Ok}
 use Rattle.trees.specs.Trees.{Program}
-use Rattle.checks.specs.Writing.{resolve}
+use Rattle.checks.specs.Resolving.{resolve}
 use Rattle.code.specs.Compile.{Code, compiled, CompiledTree}
 use Rattle.machine.specs.Machine.{state}
 use Rattle.machine.specs.declared.call.Call.{Call}
@@ -9,7 +9,7 @@ use Rattle.machine.specs.Sessions.{fitting, begun}
 use Rattle.machine.specs.Calls.{played}
 use Rattle.agreement.specs.Sessions.{limits, Promise}
 
--- The source is this tree as it is written, and this is its code. Over every stack that is as long as the depth, and every store
+-- The source is this tree as it is written, and this is its code. Over every stack that is at least as long as the depth, and every store
 -- that has the cells, a session starts, and what any calls leave keeps the promise of a source with this meaning.
 pub record Served (source : List ℕ) (code : Code) : Type 0 where
   pub tree : Program

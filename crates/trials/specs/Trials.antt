@@ -1,7 +1,7 @@
 -- What a trial of a source comes to: its code is the tree's, and every call keeps step with what the tree means.
 use Rattle.std.specs.Prelude.{◌≡◌, ℕ, ◌<◌, ◌≤◌, ◌⊎◌, List, ◌++◌, length, Ok, Err, Result}
 use Rattle.trees.specs.Trees.{Program}
-use Rattle.checks.specs.Writing.{resolve}
+use Rattle.checks.specs.Resolving.{resolve}
 use Rattle.code.specs.Compile.{Code, compiled, CompiledTree}
 use Rattle.code.specs.Faults.{refusal_of as compile_refusal}
 use Rattle.machine.specs.Machine.{state}

@@ -1,4 +1,3 @@
 pub mod Instrs
 pub mod Trees
 pub mod Lists
-pub mod Code

@@ -3,7 +3,7 @@ use Rattle.std.proofs.lemmas.List.{drop_all, append-nil, length-drop}
 use Rattle.std.specs.Slice.Iter.{iter_rest}
 use Rattle.std.specs.Iterator.Adapters.{rev_source}
 use Rattle.syntax.specs.Entries.{entries}
-use Rattle.checks.specs.Writing.{Counts, counted}
+use Rattle.checks.specs.CaseArms.{Counts, counted}
 use Rattle.checks.proofs.Counting.{first_counted, counted_more, counted_none}
 use Rattle.checks.proofs.arms.Arms.count.Goals as goal
 

@@ -2,7 +2,7 @@ use Rattle.std.proofs.Common.{◌≡◌, ◌+◌, ◌≤◌, ◌++◌, length, d
 use Rattle.std.specs.Slice.Iter.{iter_rest}
 use Rattle.std.specs.Iterator.Adapters.{rev_source}
 use Rattle.syntax.specs.Entries.{entries}
-use Rattle.checks.specs.Writing.{counted}
+use Rattle.checks.specs.CaseArms.{counted}
 use Rattle.checks.proofs.arms.Arms.count.Given as goal
 
 abbrev pub invariant-loop-n : goal.invariant-loop-n

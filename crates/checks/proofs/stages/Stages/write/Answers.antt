@@ -1,6 +1,6 @@
 use Rattle.std.proofs.Common.{ap, arith}
 use Rattle.checks.specs.Tabled.{table_as}
-use Rattle.checks.specs.Writing.{Counts}
+use Rattle.checks.specs.CaseArms.{Counts}
 use Rattle.checks.specs.Emissions.{items_of}
 use Rattle.checks.proofs.Passes.{writes_more, writes_all}
 use Rattle.checks.proofs.stages.Stages.write.Goals as goal

@@ -1,7 +1,7 @@
 use Rattle.std.proofs.Common.{◌≡◌, ◌*◌, ◌≤◌, [], ◌++◌, length, drop}
 use Rattle.syntax.specs.Entries.{entries}
 use Rattle.checks.specs.Tabled.{table_as}
-use Rattle.checks.specs.Writing.{writes}
+use Rattle.checks.specs.Emitting.{writes}
 use Rattle.checks.proofs.stages.Stages.write.Given as goal
 
 abbrev pub invariant-loop-n : goal.invariant-loop-n

@@ -5,7 +5,7 @@ use Rattle.checks.specs.declared.table.NameTable.{NameTable}
 use Rattle.syntax.specs.Works.{syntaxed}
 use Rattle.typed.specs.declared.item.Item.{Item}
 use Rattle.checks.specs.Tables.{Table, empty}
-use Rattle.checks.specs.Writing.{Counts}
+use Rattle.checks.specs.CaseArms.{Counts}
 use Rattle.checks.specs.Works.{Checked, verdict, nothing, entries_from}
 use Rattle.checks.proofs.Judging.{refused_first, refused_later, accepted, narrow_passed, total_passed}
 use Rattle.checks.proofs.workspace.Workspace.check.Goals as goal
