@@ -2,7 +2,7 @@
 ghost use Rattle.std.specs.Prelude.{◌≡◌, true, false, MatchOption};
 ghost use Rattle.arith.specs.Fields.{is_field, field, deposited};
 
-// `count` bits from the bit `from`: from 1 to 15, and not past the word.
+/// A field of `count` bits from the bit `from`, where bit 0 is the highest. It has 1 to 15 bits and ends within the word.
 #[derive(Clone, Copy, PartialEq, Eq, Debug)]
 pub struct Field {
     from: u16,
@@ -11,6 +11,7 @@ pub struct Field {
 }
 
 impl Field {
+    /// The field of `count` bits from the bit `from`, or `None` where `count` is not 1 to 15 or the field passes the word.
     #[inline(always)]
     pub fn new(from: u16, count: u16) -> Option<Field>
         ensures { MatchOption result (is_field from count ≡ false) (λ f. (is_field from count ≡ true) × (f.from ≡ from) × (f.count ≡ count)) }
@@ -21,7 +22,7 @@ impl Field {
         Some(Field { from, count })
     }
 
-    // Those bits of x.
+    /// The bits of `x` in the field, as a number.
     #[inline(always)]
     pub fn extract(self, x: u16) -> u16
         ensures { result ≡ field self.from self.count x }
@@ -29,7 +30,7 @@ impl Field {
         (x >> (16 - self.from - self.count)) % (1 << self.count)
     }
 
-    // x with those bits replaced by v's lowest.
+    /// The word `x` with the bits of the field replaced by the lowest bits of `v`.
     #[inline(always)]
     pub fn deposit(self, x: u16, v: u16) -> u16
         ensures { result ≡ deposited self.from self.count x v }

@@ -1,4 +1,4 @@
-// Words as INTEGERs, in two's complement. They are worked out in 32 bits, where nothing overflows.
+// Words as INTEGERs, in two's complement. Results are worked out in 32 bits, where nothing overflows.
 ghost use Rattle.std.specs.Prelude.{◌≡◌};
 ghost use Rattle.arith.specs.Integers.{int, fitted, Small, sum, difference, product, quotient, remainder, negation};
 ghost use Rattle.arith.specs.Stops.{number_of};
@@ -10,7 +10,7 @@ const LEAST: i32 = -32768;
 
 const GREATEST: i32 = 32767;
 
-// The INTEGER that a word is.
+/// The INTEGER that a word stands for, from -32,768 to 32,767.
 #[inline(always)]
 #[tactic(auto, unfolding(crate::specs::Integers::int))]
 pub fn value(w: u16) -> i32
@@ -20,7 +20,7 @@ pub fn value(w: u16) -> i32
     i32::from(w.cast_signed())
 }
 
-// The word that an INTEGER is, in the two cases of the definition.
+/// The word that stands for an INTEGER. Stops with 1 where `v` is outside -32,768 to 32,767.
 #[inline(always)]
 pub fn fit(v: i32) -> Result<u16, Stop>
     ensures { result ≡ fitted v }
@@ -35,7 +35,7 @@ pub fn fit(v: i32) -> Result<u16, Stop>
     }
 }
 
-// This and the next two are one line each, and their definitions are three: a function over the operation would hide it.
+/// The INTEGER sum `y + x`. Stops with 1 where it is outside -32,768 to 32,767.
 #[inline(always)]
 pub fn add(y: u16, x: u16) -> Result<u16, Stop>
     ensures { result ≡ sum y x }
@@ -43,6 +43,7 @@ pub fn add(y: u16, x: u16) -> Result<u16, Stop>
     fit(value(y) + value(x))
 }
 
+/// The INTEGER difference `y - x`. Stops with 1 where it is outside -32,768 to 32,767.
 #[inline(always)]
 pub fn sub(y: u16, x: u16) -> Result<u16, Stop>
     ensures { result ≡ difference y x }
@@ -50,6 +51,7 @@ pub fn sub(y: u16, x: u16) -> Result<u16, Stop>
     fit(value(y) - value(x))
 }
 
+/// The INTEGER product `y * x`. Stops with 1 where it is outside -32,768 to 32,767.
 #[inline(always)]
 pub fn mul(y: u16, x: u16) -> Result<u16, Stop>
     ensures { result ≡ product y x }
@@ -57,7 +59,7 @@ pub fn mul(y: u16, x: u16) -> Result<u16, Stop>
     fit(value(y) * value(x))
 }
 
-// Not by `checked_div` in this and `checked_rem` in the next: they would stand inside `fit(..)`, and be no plainer.
+/// The INTEGER quotient `y / x`, truncated toward zero. Stops with 2 where `x` is 0, and with 1 for -32,768 / -1.
 #[inline(always)]
 pub fn div(y: u16, x: u16) -> Result<u16, Stop>
     ensures { result ≡ quotient y x }
@@ -68,6 +70,7 @@ pub fn div(y: u16, x: u16) -> Result<u16, Stop>
     fit(value(y) / value(x))
 }
 
+/// The INTEGER remainder of `y / x`, which has the sign of `y` unless it is 0. Stops with 2 where `x` is 0.
 #[inline(always)]
 pub fn rem(y: u16, x: u16) -> Result<u16, Stop>
     ensures { result ≡ remainder y x }
@@ -78,6 +81,7 @@ pub fn rem(y: u16, x: u16) -> Result<u16, Stop>
     fit(value(y) % value(x))
 }
 
+/// The INTEGER negation `-x`. Stops with 1 for -32,768.
 #[inline(always)]
 pub fn neg(x: u16) -> Result<u16, Stop>
     ensures { result ≡ negation x }
@@ -85,7 +89,7 @@ pub fn neg(x: u16) -> Result<u16, Stop>
     fit(-value(x))
 }
 
-// A word below 32,768 is not negative, so that the words compare as the INTEGERs do.
+// Whether `i`, read as an INTEGER, is at least 0 and below the number `n`. A word below 32,768 is its own INTEGER.
 #[inline(always)]
 fn within(i: u16, n: u16) -> bool
     ensures { result ≡ within_of i n }
@@ -93,7 +97,7 @@ fn within(i: u16, n: u16) -> bool
     i < 32768 && i < n
 }
 
-// i, if it is one of the first n numbers from 0.
+// Answers `i` where it is one of the first `n` numbers from 0, and else the stop `past`.
 #[tactic(auto, using(crate::proofs::Numbered::stops_back))]
 #[inline(always)]
 fn below(i: u16, n: u16, past: Stop) -> Result<u16, Stop>
@@ -102,7 +106,7 @@ fn below(i: u16, n: u16, past: Stop) -> Result<u16, Stop>
     if within(i, n) { Ok(i) } else { Err(past) }
 }
 
-// The subscript i of an array of n cells.
+/// The subscript `i` of an array of `n` cells. Stops with 3 where `i`, read as an INTEGER, is below 0 or not below `n`.
 #[tactic(auto, unfolding(crate::specs::Integers::subscript))]
 #[inline(always)]
 pub fn subscript(i: u16, n: u16) -> Result<u16, Stop>
@@ -111,7 +115,7 @@ pub fn subscript(i: u16, n: u16) -> Result<u16, Stop>
     below(i, n, Stop::BadIndex)
 }
 
-// The index i of a CASE of n statements.
+/// The index `i` of a CASE of `n` statements. Stops with 4 where `i`, read as an INTEGER, is below 0 or not below `n`.
 #[tactic(auto, unfolding(crate::specs::Integers::chosen))]
 #[inline(always)]
 pub fn chosen(i: u16, n: u16) -> Result<u16, Stop>
@@ -120,7 +124,8 @@ pub fn chosen(i: u16, n: u16) -> Result<u16, Stop>
     below(i, n, Stop::BadCase)
 }
 
-// Whether a FOR takes another turn.
+/// Whether a FOR takes another turn. All three words are INTEGERs. The variable may be up to the limit where the step is 0
+/// or more, and down to the limit where the step is negative.
 #[tactic(auto, unfolding(crate::specs::Integers::turns))]
 #[inline(always)]
 pub fn turns(variable: u16, step: u16, limit: u16) -> bool

@@ -6,6 +6,7 @@ use super::integer::value;
 use super::logical::truth;
 use thiserror::Error;
 
+/// The relations of two words, in the order of their numbers, from 0.
 #[derive(Clone, Copy, PartialEq, Eq, Debug)]
 pub enum Relation {
     Equal,
@@ -24,7 +25,7 @@ impl From<Relation> for u16 {
     }
 }
 
-// A number that no relation has: they end at 5.
+/// A number that no relation has: it is over 5.
 #[derive(Clone, Copy, PartialEq, Eq, Debug, Error)]
 #[error("there is no relation {0}")]
 pub struct UnknownRelation(pub u16);
@@ -51,8 +52,7 @@ impl TryFrom<u16> for Relation {
 }
 
 impl Relation {
-    // Whether it holds, where it is known whether the left is less, and whether both are the same: the definition asks these
-    // two.
+    // Whether the relation holds, where it is known whether the left word is less, and whether both are the same.
     #[inline(always)]
     fn holds(self, less: bool, same: bool) -> bool
         ensures { result ≡ holds_of self less same }
@@ -68,7 +68,8 @@ impl Relation {
     }
 }
 
-// INTEGERs. This and the next are one line each over `holds`: a function over how words are read would be longer.
+/// TRUE (65,535) where the relation holds of `y` on the left and `x` on the right, both read as INTEGERs, and else FALSE
+/// (0).
 #[tactic(auto, unfolding(crate::specs::Relations::compared))]
 #[inline(always)]
 pub fn compare(by: Relation, y: u16, x: u16) -> u16
@@ -77,7 +78,8 @@ pub fn compare(by: Relation, y: u16, x: u16) -> u16
     truth(by.holds(value(y) < value(x), y == x))
 }
 
-// LOGICALs.
+/// TRUE (65,535) where the relation holds of `y` on the left and `x` on the right, both read as LOGICALs, and else FALSE
+/// (0).
 #[tactic(auto, unfolding(crate::specs::Relations::lcompared))]
 #[inline(always)]
 pub fn compare_logical(by: Relation, y: u16, x: u16) -> u16

@@ -4,12 +4,18 @@ ghost use Rattle.arith.specs.Shifts.{kind_number, kind_of, is_shift, shifted};
 
 use thiserror::Error;
 
+/// The kinds of shifts, in the order of their numbers, from 0.
 #[derive(Clone, Copy, PartialEq, Eq, Debug)]
 pub enum Kind {
+    /// To the left, filled with 0.
     Lsl,
+    /// To the right, filled with 0.
     Lsr,
+    /// To the right, filled with the highest bit of the word.
     Asr,
+    /// To the left; the bits that leave the word come in at its right end.
     Csl,
+    /// To the right; the bits that leave the word come in at its left end.
     Csr,
 }
 
@@ -21,7 +27,7 @@ impl From<Kind> for u16 {
     }
 }
 
-// A number that no kind of shift has: they end at 4.
+/// A number that no kind of shift has: it is over 4.
 #[derive(Clone, Copy, PartialEq, Eq, Debug, Error)]
 #[error("there is no shift {0}")]
 pub struct UnknownShift(pub u16);
@@ -46,7 +52,7 @@ impl TryFrom<u16> for Kind {
     }
 }
 
-// A shift by a count of at most 15.
+/// A shift of one kind by at most 15 bits.
 #[derive(Clone, Copy, PartialEq, Eq, Debug)]
 pub struct Shift {
     kind: Kind,
@@ -55,8 +61,7 @@ pub struct Shift {
 }
 
 impl Shift {
-    // The shift whose kind has the number, which is at most 4. Its callers bring the two words of an instruction:
-    // with a `Kind` they would first have to make one, which is no plainer.
+    /// The shift by `count` bits of the kind that has the number, or `None` where the number is over 4 or the count over 15.
     #[inline(always)]
     pub fn new(number: u16, count: u16) -> Option<Shift>
         ensures { MatchOption result (is_shift number count ≡ false) (λ s. (is_shift number count ≡ true) × (s.kind ≡ kind_of number) × (s.count ≡ count)) }
@@ -70,6 +75,7 @@ impl Shift {
         }
     }
 
+    /// The word `x` after the shift.
     #[inline(always)]
     pub fn apply(self, x: u16) -> u16
         ensures { result ≡ shifted self.kind self.count x }
@@ -85,7 +91,7 @@ impl Shift {
                     65535 - ((65535 - x) >> b)
                 }
             }
-            // the two parts are added, as in the definition; the library's rotations OR them
+            // The two parts are added, as in the definition.
             Kind::Csl => (x << b) + ((x as u32) >> (16 - b)) as u16,
             Kind::Csr => (x >> b) + (((x as u32) << (16 - b)) % 65536) as u16,
         }

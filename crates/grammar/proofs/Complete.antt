@@ -1,18 +1,18 @@
 -- What is written as the grammar says is read to its entries. Assumes nothing.
 use Rattle.std.proofs.Common.{◌≡◌, ℕ, ◌-◌, ◌≤◌, Bool, false, List, [], ◌∷◌, ◌++◌, Some, None, Ok, sym, refl, ap, ◌∙◌, append-nil, arith}
-use Rattle.text.specs.declared.token.Kind.{Kind}
-use Rattle.text.specs.declared.token.Keyword.{Keyword}
-use Rattle.text.specs.declared.token.Keyword.TheVariants as kw
-use Rattle.text.specs.declared.token.Symbol.TheVariants as sign
-use Rattle.syntax.specs.declared.lexeme.Opening.{Opening}
-use Rattle.syntax.specs.declared.lexeme.Opening.TheVariants as opening
-use Rattle.syntax.specs.Entries.{Entry}
-use Rattle.syntax.specs.Entries as entry
-use Rattle.syntax.specs.Marks.{keyword, Tok, is_keyword, kind_of, kind_word, spelled_of, opening_of, opening_word}
-use Rattle.syntax.specs.Machine.{Goal, feed, expr, condition, inner, stated, stepping, limited, declared}
-use Rattle.syntax.specs.Machine as goal
-use Rattle.trees.specs.Trees.{Clause, Cond, Body, Arms, Decl, Program}
-use Rattle.trees.specs.Lists.{list_e, list_l, list_c, list_b, list_a, list_d, list_ds, list}
+use Rattle.lexer.specs.declared.token.Kind.{Kind}
+use Rattle.lexer.specs.declared.token.Keyword.{Keyword}
+use Rattle.lexer.specs.declared.token.Keyword.TheVariants as kw
+use Rattle.lexer.specs.declared.token.Symbol.TheVariants as sign
+use Rattle.parser.specs.declared.lexeme.Opening.{Opening}
+use Rattle.parser.specs.declared.lexeme.Opening.TheVariants as opening
+use Rattle.parser.specs.Entries.{Entry}
+use Rattle.parser.specs.Entries as entry
+use Rattle.parser.specs.Marks.{keyword, Tok, is_keyword, kind_of, kind_word, spelled_of, opening_of, opening_word}
+use Rattle.parser.specs.Machine.{Goal, feed, expr, condition, inner, stated, stepping, limited, declared}
+use Rattle.parser.specs.Machine as goal
+use Rattle.ast.specs.Trees.{Clause, Cond, Body, Arms, Decl, Program}
+use Rattle.ast.specs.Lists.{list_e, list_l, list_c, list_b, list_a, list_d, list_ds, list}
 use Rattle.grammar.specs.Grammar.{at, symbol, word, name, decimal, bits, ExprWritten, lor, ClauseWritten, CondWritten, StepWritten, NotElse, StatementWritten, Inside, ListWritten, ArmsWritten, ItemWritten, ItemsWritten, TypedWritten, DeclarationsWritten, ProgramWritten}
 use Rattle.grammar.specs.Grammar as rule
 use Rattle.grammar.proofs.Marks.{grip}
@@ -156,7 +156,7 @@ mutual
         ∙ ap (run end vs k) (onto _ (entry.Case p) _ ∙ onto_e o e _),
   )
   inside_reads (rule.while {l = l} {c = c} {b = b} {ts = ts} {us = us} {vs = vs} w v) h end k o = (
-    opening.Ahead,
+    opening.While,
     refl,
     puts end ts entry.While _ o
         ∙ cond_reads w end (goal.word kw.Do ∷ goal.put entry.Then ∷ goal.stmt l ∷ goal.put entry.Loop ∷ k) _ (omega arith, refl, refl)
@@ -166,7 +166,7 @@ mutual
         ∙ ap (run end vs k) (onto_b _ b _ ∙ onto _ entry.Then _ ∙ onto_c _ c _ ∙ onto o entry.While _),
   )
   inside_reads (rule.repeat {l = l} {q = q} {c = c} {b = b} {ts = ts} {us = us} {vs = vs} w v) h end k o = (
-    opening.Behind,
+    opening.Do,
     refl,
     puts end ts entry.Do _ o
         ∙ statement_reads w end (goal.word kw.Until ∷ goal.put entry.Until ∷ condition l ++ goal.put entry.Done ∷ k) _ (untils q us)
@@ -176,7 +176,7 @@ mutual
         ∙ ap (run end vs k) (onto_c _ c _ ∙ onto _ entry.Until _ ∙ onto_b _ b _ ∙ onto o entry.Do _),
   )
   inside_reads (rule.count {f = f} {p = p} {l = l} {n = n} {e = e} {m = m} {b = b} {vs = vs} {ws = ws} {xs = xs} w rule.absent v x) h end k o = (
-    opening.Counted,
+    opening.For,
     refl,
     whole w end (goal.put (entry.First n p f) ∷ goal.stepped n p f l ∷ k) o (omega arith)
         ∙ puts end vs entry.One _ _
@@ -188,7 +188,7 @@ mutual
         ∙ ap (run end xs k) (onto _ (entry.Next n) _ ∙ onto_b _ b _ ∙ onto _ (entry.For n p f) _ ∙ onto_e _ m _ ∙ onto _ entry.One _ ∙ onto _ (entry.First n p f) _ ∙ onto_e o e _),
   )
   inside_reads (rule.count {f = f} {p = p} {l = l} {n = n} {e = e} {m = m} {b = b} {vs = vs} {ws = ws} {xs = xs} w (rule.by {e = y} z) v x) h end k o = (
-    opening.Counted,
+    opening.For,
     refl,
     whole w end (goal.put (entry.First n p f) ∷ goal.stepped n p f l ∷ k) o (omega arith)
         ∙ whole z end (goal.put (entry.Step f) ∷ goal.word kw.Until ∷ goal.turns n p f l ∷ k) _ (omega arith)

@@ -1,19 +1,19 @@
 -- Every stack of goals that the machine can reach has tokens that complete it. Assumes nothing.
 use Rattle.std.proofs.Common.{◌≡◌, ℕ, ◌-◌, ◌<◌, cond, List, [], ◌∷◌, ◌++◌, Ok, refl, ap, ◌∙◌, arith}
 use denote.Enum.Bare.{true_same}
-use Rattle.words.specs.Refusals.{refuse}
-use Rattle.text.specs.declared.token.Kind.TheVariants as kind
-use Rattle.text.specs.declared.token.Keyword.TheVariants as kw
-use Rattle.text.specs.declared.token.Symbol.TheVariants as sign
-use Rattle.text.specs.contracts.token.Keyword.{the_type as keyword_type}
-use Rattle.text.specs.contracts.token.Symbol.{the_type as symbol_type}
-use Rattle.syntax.specs.declared.lexeme.Strength.TheVariants as strength
-use Rattle.syntax.specs.Entries.{Entry}
-use Rattle.syntax.specs.Entries as entry
-use Rattle.syntax.specs.Marks.{Tok}
-use Rattle.syntax.specs.Machine.{Goal, Parsed, Use, part, into, used, expr, stored, stepping}
-use Rattle.syntax.specs.Machine as goal
-use Rattle.trees.specs.Trees as tree
+use Rattle.base.specs.Refusals.{refuse}
+use Rattle.lexer.specs.declared.token.Kind.TheVariants as kind
+use Rattle.lexer.specs.declared.token.Keyword.TheVariants as kw
+use Rattle.lexer.specs.declared.token.Symbol.TheVariants as sign
+use Rattle.lexer.specs.contracts.token.Keyword.{the_type as keyword_type}
+use Rattle.lexer.specs.contracts.token.Symbol.{the_type as symbol_type}
+use Rattle.parser.specs.declared.lexeme.Strength.TheVariants as strength
+use Rattle.parser.specs.Entries.{Entry}
+use Rattle.parser.specs.Entries as entry
+use Rattle.parser.specs.Marks.{Tok}
+use Rattle.parser.specs.Machine.{Goal, Parsed, Use, part, into, used, expr, stored, stepping}
+use Rattle.parser.specs.Machine as goal
+use Rattle.ast.specs.Trees as tree
 use Rattle.grammar.specs.Grammar.{symbol, word, name, decimal, Rank, lor, xor, land, relation, sum, term, factor, primary, lor_xor, xor_land, land_relation, relation_sum, sum_term, term_factor, factor_primary, ExprWritten, NotElse}
 use Rattle.grammar.specs.Grammar as rule
 use Rattle.grammar.proofs.Marks.{rank_of}

@@ -1,12 +1,12 @@
 -- The reader reads exactly the grammar. Assumes nothing.
 use Rattle.std.proofs.Common.{◌≡◌, ℕ, ◌+◌, List, [], map, length, Ok, Err, Result, sym, refl, ap, ◌∙◌, arith}
-use Rattle.words.specs.declared.refusal.Refusal.{Refusal}
-use Rattle.words.specs.Refusals.{then}
-use Rattle.text.specs.Cut.{Piece, texted}
-use Rattle.syntax.specs.Entries.{Entry}
-use Rattle.syntax.specs.Marks.{seen}
-use Rattle.syntax.specs.Machine.{program}
-use Rattle.syntax.specs.Works.{parse, syntaxed}
+use Rattle.base.specs.declared.refusal.Refusal.{Refusal}
+use Rattle.base.specs.Refusals.{then}
+use Rattle.lexer.specs.Cut.{Piece, texted}
+use Rattle.parser.specs.Entries.{Entry}
+use Rattle.parser.specs.Marks.{seen}
+use Rattle.parser.specs.Machine.{program}
+use Rattle.parser.specs.Works.{parse, syntaxed}
 use Rattle.grammar.specs.Theorems.{ReadsTheGrammar, ListsATree, OneTree}
 use Rattle.grammar.proofs.Runs.{run, later_run}
 use Rattle.grammar.proofs.Complete.{program_reads}

@@ -1,17 +1,17 @@
 -- Expressions as they are written are read to their entries. Assumes nothing.
 use Rattle.std.proofs.Common.{◌≡◌, ℕ, ◌-◌, ◌≤◌, false, List, [], ◌∷◌, ◌++◌, Some, refl, ap, ◌∙◌, arith}
-use Rattle.text.specs.declared.token.Keyword.TheVariants as kw
-use Rattle.text.specs.declared.token.Symbol.TheVariants as sign
-use Rattle.syntax.specs.declared.node.Operator.{Operator}
-use Rattle.syntax.specs.declared.lexeme.Strength.{Strength}
-use Rattle.syntax.specs.declared.lexeme.Strength.TheVariants as strength
-use Rattle.syntax.specs.Entries.{Entry}
-use Rattle.syntax.specs.Entries as entry
-use Rattle.syntax.specs.Marks.{Mark, Tok, is_symbol, is_keyword, literal_of, kind_of, operator_at}
-use Rattle.syntax.specs.Machine.{Goal, feed, expr}
-use Rattle.syntax.specs.Machine as goal
-use Rattle.trees.specs.Trees.{Expr}
-use Rattle.trees.specs.Lists.{list_e}
+use Rattle.lexer.specs.declared.token.Keyword.TheVariants as kw
+use Rattle.lexer.specs.declared.token.Symbol.TheVariants as sign
+use Rattle.parser.specs.declared.node.Operator.{Operator}
+use Rattle.parser.specs.declared.lexeme.Strength.{Strength}
+use Rattle.parser.specs.declared.lexeme.Strength.TheVariants as strength
+use Rattle.parser.specs.Entries.{Entry}
+use Rattle.parser.specs.Entries as entry
+use Rattle.parser.specs.Marks.{Mark, Tok, is_symbol, is_keyword, literal_of, kind_of, operator_at}
+use Rattle.parser.specs.Machine.{Goal, feed, expr}
+use Rattle.parser.specs.Machine as goal
+use Rattle.ast.specs.Trees.{Expr}
+use Rattle.ast.specs.Lists.{list_e}
 use Rattle.grammar.specs.Grammar.{at, symbol, word, name, decimal, Rank, lor, xor, land, relation, sum, term, factor, primary, Chain, lor_xor, xor_land, land_relation, relation_sum, sum_term, term_factor, factor_primary, Left, lors, xors, lands, sums, terms, FieldWritten, bits, ExprWritten}
 use Rattle.grammar.specs.Grammar as rule
 use Rattle.grammar.proofs.Marks.{not_keyword, not_symbol, kind_literal, grip, operator_grip, operator_none, no_dot, no_ampersand, no_open, rank_of}

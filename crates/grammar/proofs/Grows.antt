@@ -1,21 +1,21 @@
 -- One token more in front: what a goal stands for, from what the goals stand for that the token puts in its place.
 -- Assumes nothing.
 use Rattle.std.proofs.Common.{◌≡◌, ℕ, ◌-◌, ◌<◌, Bool, true, false, List, [], ◌∷◌, ◌++◌, Some, sym, refl, ap, ◌∙◌, subst}
-use Rattle.text.specs.declared.token.Kind.{Kind}
-use Rattle.text.specs.declared.token.Kind.TheVariants as kind
-use Rattle.text.specs.declared.token.Keyword.{Keyword}
-use Rattle.text.specs.declared.token.Keyword.TheVariants as kw
-use Rattle.text.specs.declared.token.Symbol.TheVariants as sign
-use Rattle.syntax.specs.declared.node.Operator.{Operator}
-use Rattle.syntax.specs.declared.lexeme.Strength.{Strength}
-use Rattle.syntax.specs.declared.lexeme.Strength.TheVariants as strength
-use Rattle.syntax.specs.Entries.{Entry}
-use Rattle.syntax.specs.Entries as entry
-use Rattle.syntax.specs.Marks.{Mark, Tok, literal_of, kind_of, operator_at}
-use Rattle.syntax.specs.Machine.{Use, part, into}
-use Rattle.trees.specs.Trees.{Expr, Clause, Cond, Step, Stmt, Body, Arms, Decl, Program, joined}
-use Rattle.trees.specs.Trees as tree
-use Rattle.trees.specs.Lists.{list_e, list_c, list_p, list_b, list_a, list_d, list_ds}
+use Rattle.lexer.specs.declared.token.Kind.{Kind}
+use Rattle.lexer.specs.declared.token.Kind.TheVariants as kind
+use Rattle.lexer.specs.declared.token.Keyword.{Keyword}
+use Rattle.lexer.specs.declared.token.Keyword.TheVariants as kw
+use Rattle.lexer.specs.declared.token.Symbol.TheVariants as sign
+use Rattle.parser.specs.declared.node.Operator.{Operator}
+use Rattle.parser.specs.declared.lexeme.Strength.{Strength}
+use Rattle.parser.specs.declared.lexeme.Strength.TheVariants as strength
+use Rattle.parser.specs.Entries.{Entry}
+use Rattle.parser.specs.Entries as entry
+use Rattle.parser.specs.Marks.{Mark, Tok, literal_of, kind_of, operator_at}
+use Rattle.parser.specs.Machine.{Use, part, into}
+use Rattle.ast.specs.Trees.{Expr, Clause, Cond, Step, Stmt, Body, Arms, Decl, Program, joined}
+use Rattle.ast.specs.Trees as tree
+use Rattle.ast.specs.Lists.{list_e, list_c, list_p, list_b, list_a, list_d, list_ds}
 use Rattle.grammar.specs.Grammar.{at, symbol, word, name, decimal, Rank, lor, xor, land, relation, sum, term, factor, primary, Chain, lor_xor, xor_land, land_relation, relation_sum, sum_term, term_factor, factor_primary, Left, FieldWritten, bits, ExprWritten, ClauseWritten, CondWritten, StepWritten, NotElse, StatementWritten, Inside, ListWritten, ArmsWritten, ItemWritten, ItemsWritten, TypedWritten, DeclarationsWritten}
 use Rattle.grammar.specs.Grammar as rule
 use Rattle.grammar.proofs.Runs.{joined_list, appended_list}

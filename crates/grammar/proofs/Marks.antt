@@ -3,21 +3,21 @@ use Rattle.std.proofs.Common.{◌≡◌, ℕ, suc, ◌≤◌, max, Bool, true, f
 use Rattle.std.proofs.lemmas.Bool.{false_from_ne_true}
 use denote.Enum.Bare.{same_true, false_same, true_same}
 use Rattle.grammar.specs.Theorems.{ToldApart}
-use Rattle.text.specs.declared.token.Kind.{Kind}
-use Rattle.text.specs.declared.token.Keyword.{Keyword}
-use Rattle.text.specs.declared.token.Keyword.TheVariants as kw
-use Rattle.text.specs.declared.token.Symbol.{Symbol}
-use Rattle.text.specs.declared.token.Symbol.TheVariants as sign
-use Rattle.text.specs.contracts.token.Keyword.{the_type as keyword_type}
-use Rattle.text.specs.contracts.token.Symbol.{the_type as symbol_type}
-use Rattle.text.specs.Cut.{Piece}
-use Rattle.text.specs.Cut as piece
-use Rattle.text.specs.Reserved.{keyword_of}
-use Rattle.syntax.specs.declared.node.Operator.{Operator}
-use Rattle.syntax.specs.declared.lexeme.Strength.{Strength}
-use Rattle.syntax.specs.declared.lexeme.Strength.TheVariants as strength
-use Rattle.syntax.specs.contracts.lexeme.Strength.{the_type as strength_type}
-use Rattle.syntax.specs.Marks.{Mark, keyword, symbol, name, number, stop, seen, worded, is_stop, is_symbol, is_keyword, same_strength, literal_of, kind_of, operator_at, operator_sign, operator_word, strength_of, kept, truth_word, truth_at, kind_word}
+use Rattle.lexer.specs.declared.token.Kind.{Kind}
+use Rattle.lexer.specs.declared.token.Keyword.{Keyword}
+use Rattle.lexer.specs.declared.token.Keyword.TheVariants as kw
+use Rattle.lexer.specs.declared.token.Symbol.{Symbol}
+use Rattle.lexer.specs.declared.token.Symbol.TheVariants as sign
+use Rattle.lexer.specs.contracts.token.Keyword.{the_type as keyword_type}
+use Rattle.lexer.specs.contracts.token.Symbol.{the_type as symbol_type}
+use Rattle.lexer.specs.Cut.{Piece}
+use Rattle.lexer.specs.Cut as piece
+use Rattle.lexer.specs.Reserved.{keyword_of}
+use Rattle.parser.specs.declared.node.Operator.{Operator}
+use Rattle.parser.specs.declared.lexeme.Strength.{Strength}
+use Rattle.parser.specs.declared.lexeme.Strength.TheVariants as strength
+use Rattle.parser.specs.contracts.lexeme.Strength.{the_type as strength_type}
+use Rattle.parser.specs.Marks.{Mark, keyword, symbol, name, number, stop, seen, worded, is_stop, is_symbol, is_keyword, same_strength, literal_of, kind_of, operator_at, operator_sign, operator_word, strength_of, kept, truth_word, truth_at, kind_word}
 
 -- Booleans and options
 pub both : {A : Type 0} {b : Bool} → b ≡ true → b ≡ false → A

@@ -1,21 +1,21 @@
 -- What each goal of the machine stands for: which tokens it takes, as the grammar writes them, and which entries it
 -- leaves. Assumes nothing.
 use Rattle.std.proofs.Common.{◌≡◌, ℕ, ◌-◌, ◌<◌, Bool, true, false, List, [], ◌∷◌, Some}
-use Rattle.text.specs.declared.token.Kind.{Kind}
-use Rattle.text.specs.declared.token.Keyword.{Keyword}
-use Rattle.text.specs.declared.token.Keyword.TheVariants as kw
-use Rattle.text.specs.declared.token.Symbol.{Symbol}
-use Rattle.text.specs.declared.token.Symbol.TheVariants as sign
+use Rattle.lexer.specs.declared.token.Kind.{Kind}
+use Rattle.lexer.specs.declared.token.Keyword.{Keyword}
+use Rattle.lexer.specs.declared.token.Keyword.TheVariants as kw
+use Rattle.lexer.specs.declared.token.Symbol.{Symbol}
+use Rattle.lexer.specs.declared.token.Symbol.TheVariants as sign
 use Rattle.arith.specs.declared.shift.Kind.{Kind as ShiftKind}
-use Rattle.syntax.specs.declared.lexeme.Strength.{Strength}
-use Rattle.syntax.specs.declared.lexeme.Strength.TheVariants as strength
-use Rattle.syntax.specs.Entries.{Entry}
-use Rattle.syntax.specs.Entries as entry
-use Rattle.syntax.specs.Marks.{Mark, Tok, shift_of}
-use Rattle.syntax.specs.Machine.{Goal, Use, part, into, stored}
-use Rattle.syntax.specs.Machine as goal
-use Rattle.trees.specs.Trees.{Expr, Cond, Body, Arms, Decl}
-use Rattle.trees.specs.Lists.{list_e, list_c, list_b, list_a, list_d, list_ds}
+use Rattle.parser.specs.declared.lexeme.Strength.{Strength}
+use Rattle.parser.specs.declared.lexeme.Strength.TheVariants as strength
+use Rattle.parser.specs.Entries.{Entry}
+use Rattle.parser.specs.Entries as entry
+use Rattle.parser.specs.Marks.{Mark, Tok, shift_of}
+use Rattle.parser.specs.Machine.{Goal, Use, part, into, stored}
+use Rattle.parser.specs.Machine as goal
+use Rattle.ast.specs.Trees.{Expr, Cond, Body, Arms, Decl}
+use Rattle.ast.specs.Lists.{list_e, list_c, list_b, list_a, list_d, list_ds}
 use Rattle.grammar.specs.Grammar.{at, symbol, word, name, decimal, Rank, lor, xor, land, relation, sum, term, factor, primary, ExprWritten, CondWritten, StatementWritten, Inside, ListWritten, ArmsWritten, ItemWritten, ItemsWritten, TypedWritten, DeclarationsWritten}
 
 -- what tokens and entries stand for

@@ -1,7 +1,7 @@
 -- Tokens have one first with which they are no longer begun, so that each refusal stands exactly where the grammar says.
 -- Assumes nothing.
 use Rattle.std.proofs.Common.{◌≡◌, ℕ, ◌⊎◌, List, [], ◌∷◌, ◌++◌, sym, refl, ap, ◌∙◌, subst, inl, inr, ⊎_elim, append_assoc, ap₂}
-use Rattle.syntax.specs.Marks.{Tok}
+use Rattle.parser.specs.Marks.{Tok}
 use Rattle.grammar.specs.Grammar.{ProgramWritten}
 use Rattle.grammar.specs.Prefixes.{Begins, Converting, Begun}
 

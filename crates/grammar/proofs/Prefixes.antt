@@ -1,18 +1,18 @@
 -- Where the machine refuses, in the grammar's words. Assumes nothing.
 use Rattle.std.proofs.Common.{◌≡◌, ℕ, ◌+◌, ◌-◌, ◌<◌, cond, ◌⊎◌, List, [], ◌∷◌, ◌++◌, map, Some, None, Ok, Err, sym, refl, ap, ◌∙◌, subst, inl, inr, ⊎_elim, append-nil, append_assoc, arith}
-use Rattle.words.specs.declared.refusal.Refusal.{Refusal}
-use Rattle.words.specs.Refusals.{refuse}
-use Rattle.text.specs.declared.token.Kind.{Kind}
-use Rattle.text.specs.declared.token.Keyword.TheVariants as kw
-use Rattle.text.specs.declared.token.Symbol.TheVariants as sign
-use Rattle.text.specs.Cut.{Piece}
-use Rattle.syntax.specs.Entries.{Entry}
-use Rattle.syntax.specs.Entries as entry
-use Rattle.syntax.specs.Marks.{Tok, seen, kind_of}
-use Rattle.syntax.specs.Machine.{Goal, Onward, Parsed, feed, program, unexpected, deeper, parenthesis, stated, stepping, limited}
-use Rattle.syntax.specs.Machine as goal
-use Rattle.syntax.specs.Works.{parse}
-use Rattle.trees.specs.Trees.{Program}
+use Rattle.base.specs.declared.refusal.Refusal.{Refusal}
+use Rattle.base.specs.Refusals.{refuse}
+use Rattle.lexer.specs.declared.token.Kind.{Kind}
+use Rattle.lexer.specs.declared.token.Keyword.TheVariants as kw
+use Rattle.lexer.specs.declared.token.Symbol.TheVariants as sign
+use Rattle.lexer.specs.Cut.{Piece}
+use Rattle.parser.specs.Entries.{Entry}
+use Rattle.parser.specs.Entries as entry
+use Rattle.parser.specs.Marks.{Tok, seen, kind_of}
+use Rattle.parser.specs.Machine.{Goal, Onward, Parsed, feed, program, unexpected, deeper, parenthesis, stated, stepping, limited}
+use Rattle.parser.specs.Machine as goal
+use Rattle.parser.specs.Works.{parse}
+use Rattle.ast.specs.Trees.{Program}
 use Rattle.grammar.specs.Grammar.{ProgramWritten, symbol}
 use Rattle.grammar.specs.Prefixes.{Begins, Converting, Begun, WrongAt, Unfinished, DeepAt, Unexpected, RefusedWhereNoneBegins, RefusedWhereTooDeep, RefusedOnlySo}
 use Rattle.grammar.proofs.Marks.{empty, not_symbol}

@@ -1,11 +1,11 @@
 -- A syntax list gives its tree back, so that two trees with one list are equal. Assumes nothing.
 use Rattle.std.proofs.Common.{◌≡◌, ℕ, List, [], ◌∷◌, ◌++◌, Some, None, Option, sym, refl, ap, ◌∙◌, ap₂, append-nil}
-use Rattle.text.specs.declared.token.Kind.TheVariants as kind
-use Rattle.syntax.specs.Entries.{Entry}
-use Rattle.syntax.specs.Entries as entry
-use Rattle.trees.specs.Trees.{Expr, Clause, Cond, Step, Stmt, Body, Arms, Decl, Program, joined}
-use Rattle.trees.specs.Trees as tree
-use Rattle.trees.specs.Lists.{list_e, list_l, list_c, list_p, list_s, list_b, list_a, list_ds, list}
+use Rattle.lexer.specs.declared.token.Kind.TheVariants as kind
+use Rattle.parser.specs.Entries.{Entry}
+use Rattle.parser.specs.Entries as entry
+use Rattle.ast.specs.Trees.{Expr, Clause, Cond, Step, Stmt, Body, Arms, Decl, Program, joined}
+use Rattle.ast.specs.Trees as tree
+use Rattle.ast.specs.Lists.{list_e, list_l, list_c, list_p, list_s, list_b, list_a, list_ds, list}
 
 abbrev top : {A : Type 0} → A → List A → A
 top x [] = x

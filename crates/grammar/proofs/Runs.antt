@@ -1,14 +1,14 @@
 -- The machine over tokens as the grammar sees them. Assumes nothing.
 use Rattle.std.proofs.Common.{◌≡◌, ℕ, ◌<◌, cond, List, [], ◌∷◌, ◌++◌, map, Some, None, Option, refl, ap, ◌∙◌, append_assoc, arith, ne_eqb}
-use Rattle.words.specs.Refusals.{refuse}
-use Rattle.text.specs.Cut.{Piece}
-use Rattle.syntax.specs.Entries.{Entry}
-use Rattle.syntax.specs.Entries as entry
-use Rattle.syntax.specs.Marks.{Tok, seen}
-use Rattle.syntax.specs.Machine.{Onward, Parsed, feed, ending, later, deeper}
-use Rattle.trees.specs.Trees.{Expr, Clause, Cond, Step, Stmt, Body, Arms, Decl, joined}
-use Rattle.trees.specs.Trees as tree
-use Rattle.trees.specs.Lists.{list_e, list_l, list_c, list_p, list_s, list_b, list_a, list_d, list_ds}
+use Rattle.base.specs.Refusals.{refuse}
+use Rattle.lexer.specs.Cut.{Piece}
+use Rattle.parser.specs.Entries.{Entry}
+use Rattle.parser.specs.Entries as entry
+use Rattle.parser.specs.Marks.{Tok, seen}
+use Rattle.parser.specs.Machine.{Onward, Parsed, feed, ending, later, deeper}
+use Rattle.ast.specs.Trees.{Expr, Clause, Cond, Step, Stmt, Body, Arms, Decl, joined}
+use Rattle.ast.specs.Trees as tree
+use Rattle.ast.specs.Lists.{list_e, list_l, list_c, list_p, list_s, list_b, list_a, list_d, list_ds}
 
 abbrev pub run : (end : ℕ) → List Tok → Onward
 run end [] k o = feed (ending end) (λ _ _. refuse 5 end) k o

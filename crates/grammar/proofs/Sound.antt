@@ -1,25 +1,25 @@
 -- What the machine reads is written as the grammar says. Assumes nothing.
 use Rattle.std.proofs.Common.{◌≡◌, ℕ, ◌-◌, ◌<◌, Bool, true, false, cond, eqb, ◌⊎◌, List, [], ◌∷◌, ◌++◌, map, Some, None, Ok, Err, Option, sym, refl, ap, ◌∙◌, subst, inl, inr, ⊎_elim, append-nil, arith}
 use borrow.Author.Tests.{eqb-false}
-use Rattle.words.specs.declared.refusal.Refusal.{Refusal}
-use Rattle.words.specs.Refusals.{refuse}
-use Rattle.text.specs.declared.token.Kind.TheVariants as kind
-use Rattle.text.specs.declared.token.Keyword.{Keyword}
-use Rattle.text.specs.declared.token.Keyword.TheVariants as kw
-use Rattle.text.specs.declared.token.Symbol.{Symbol}
-use Rattle.text.specs.declared.token.Symbol.TheVariants as sign
-use Rattle.syntax.specs.declared.lexeme.Strength.TheVariants as strength
-use Rattle.syntax.specs.declared.lexeme.Opening.{Opening}
-use Rattle.syntax.specs.declared.lexeme.Opening.TheVariants as opening
-use Rattle.syntax.specs.Entries.{Entry}
-use Rattle.syntax.specs.Entries as entry
-use Rattle.syntax.specs.Marks.{Mark, Tok, seen, is_stop, is_symbol, is_keyword, literal_of, kind_of, spelled_of, decimal_of, shift_of, opening_of, opening_word, operator_at}
-use Rattle.syntax.specs.Marks as mark
-use Rattle.syntax.specs.Machine.{Goal, Onward, Parsed, feed, expr, condition, inner, stated, stepping, limited, declared, parenthesis, begins, leading, related, deeper, ending, Use, part, into, used}
-use Rattle.syntax.specs.Machine as goal
-use Rattle.text.specs.Cut.{Piece}
-use Rattle.trees.specs.Trees.{Program}
-use Rattle.trees.specs.Lists.{list_b, list_ds, list}
+use Rattle.base.specs.declared.refusal.Refusal.{Refusal}
+use Rattle.base.specs.Refusals.{refuse}
+use Rattle.lexer.specs.declared.token.Kind.TheVariants as kind
+use Rattle.lexer.specs.declared.token.Keyword.{Keyword}
+use Rattle.lexer.specs.declared.token.Keyword.TheVariants as kw
+use Rattle.lexer.specs.declared.token.Symbol.{Symbol}
+use Rattle.lexer.specs.declared.token.Symbol.TheVariants as sign
+use Rattle.parser.specs.declared.lexeme.Strength.TheVariants as strength
+use Rattle.parser.specs.declared.lexeme.Opening.{Opening}
+use Rattle.parser.specs.declared.lexeme.Opening.TheVariants as opening
+use Rattle.parser.specs.Entries.{Entry}
+use Rattle.parser.specs.Entries as entry
+use Rattle.parser.specs.Marks.{Mark, Tok, seen, is_stop, is_symbol, is_keyword, literal_of, kind_of, spelled_of, decimal_of, shift_of, opening_of, opening_word, operator_at}
+use Rattle.parser.specs.Marks as mark
+use Rattle.parser.specs.Machine.{Goal, Onward, Parsed, feed, expr, condition, inner, stated, stepping, limited, declared, parenthesis, begins, leading, related, deeper, ending, Use, part, into, used}
+use Rattle.parser.specs.Machine as goal
+use Rattle.lexer.specs.Cut.{Piece}
+use Rattle.ast.specs.Trees.{Program}
+use Rattle.ast.specs.Lists.{list_b, list_ds, list}
 use Rattle.grammar.specs.Grammar.{ProgramWritten, ListWritten, at, symbol, word, name, decimal, Rank, lor, xor, land, relation, sum, term, factor, primary, Chain, lor_xor, xor_land, land_relation, relation_sum, sum_term, term_factor, factor_primary, lors, xors, lands, sums, terms}
 use Rattle.grammar.specs.Grammar as rule
 use Rattle.grammar.proofs.Marks.{seen_live, both, symbol_is, keyword_is}
@@ -82,9 +82,9 @@ abbrev pub opener : Opening → Keyword
 opener opening.Block = kw.Begin
 opener opening.Conditional = kw.If
 opener opening.Choice = kw.Case
-opener opening.Ahead = kw.While
-opener opening.Behind = kw.Do
-opener opening.Counted = kw.For
+opener opening.While = kw.While
+opener opening.Do = kw.Do
+opener opening.For = kw.For
 
 opener_is : (w : Keyword) {x : Opening} → opening_word w ≡ Some x → w ≡ opener x
 opener_is kw.Begin {x} h = ap opener (let e : opening.Block ≡ x = cc in e)
@@ -97,10 +97,10 @@ opener_is kw.Then h = absurd cc
 opener_is kw.Else h = absurd cc
 opener_is kw.Case {x} h = ap opener (let e : opening.Choice ≡ x = cc in e)
 opener_is kw.Of h = absurd cc
-opener_is kw.While {x} h = ap opener (let e : opening.Ahead ≡ x = cc in e)
-opener_is kw.Do {x} h = ap opener (let e : opening.Behind ≡ x = cc in e)
+opener_is kw.While {x} h = ap opener (let e : opening.While ≡ x = cc in e)
+opener_is kw.Do {x} h = ap opener (let e : opening.Do ≡ x = cc in e)
 opener_is kw.Until h = absurd cc
-opener_is kw.For {x} h = ap opener (let e : opening.Counted ≡ x = cc in e)
+opener_is kw.For {x} h = ap opener (let e : opening.For ≡ x = cc in e)
 opener_is kw.Step h = absurd cc
 opener_is kw.Or h = absurd cc
 opener_is kw.And h = absurd cc
@@ -129,9 +129,9 @@ in_opening : (x : Opening) (p l : ℕ) (k : List Goal) (ts : List Tok) (r : List
 in_opening opening.Block p l k ts r y = grow.in_block y
 in_opening opening.Conditional p l k ts r y = grow.in_if y
 in_opening opening.Choice p l k ts r y = grow.in_case (grow.whole y)
-in_opening opening.Ahead p l k ts r y = grow.in_while y
-in_opening opening.Behind p l k ts r y = grow.in_do y
-in_opening opening.Counted p l k ts r y = y
+in_opening opening.While p l k ts r y = grow.in_while y
+in_opening opening.Do p l k ts r y = grow.in_do y
+in_opening opening.For p l k ts r y = y
 
 used_all : (u : Use) (a b p : ℕ) (k : List Goal) (ts : List Tok) (r : List Entry) → All (used u a b p k) ts r → Used u a b p (All k) ts r
 used_all part a b p k ts r x = x

@@ -1,19 +1,19 @@
 -- One token: the goals that it leads to, with any number of further levels, or its refusal. Assumes nothing.
 use Rattle.std.proofs.Common.{◌≡◌, ℕ, zero, suc, ◌+◌, ◌-◌, Bool, true, false, cond, List, [], ◌∷◌, ◌++◌, Some, None, Option, refl, ap, ◌∙◌, subst, sym, arith}
-use Rattle.words.specs.Refusals.{refuse}
-use Rattle.text.specs.declared.token.Kind.{Kind}
-use Rattle.text.specs.declared.token.Kind.TheVariants as kind
-use Rattle.text.specs.declared.token.Keyword.TheVariants as kw
-use Rattle.text.specs.declared.token.Symbol.TheVariants as sign
-use Rattle.syntax.specs.declared.lexeme.Strength.{Strength}
-use Rattle.syntax.specs.declared.lexeme.Strength.TheVariants as strength
-use Rattle.syntax.specs.declared.lexeme.Opening.{Opening}
-use Rattle.syntax.specs.declared.lexeme.Opening.TheVariants as opening
-use Rattle.syntax.specs.Entries.{Entry}
-use Rattle.syntax.specs.Entries as entry
-use Rattle.syntax.specs.Marks.{keyword, Tok, is_stop, is_symbol, is_keyword, literal_of, kind_of, spelled_of, decimal_of, shift_of, opening_of, operator_at}
-use Rattle.syntax.specs.Machine.{Goal, Use, part, into, Onward, Parsed, feed, expr, inner, right, used, stored, deeper, unexpected, parenthesis, begins, leading, related, stated, stepping, limited}
-use Rattle.syntax.specs.Machine as goal
+use Rattle.base.specs.Refusals.{refuse}
+use Rattle.lexer.specs.declared.token.Kind.{Kind}
+use Rattle.lexer.specs.declared.token.Kind.TheVariants as kind
+use Rattle.lexer.specs.declared.token.Keyword.TheVariants as kw
+use Rattle.lexer.specs.declared.token.Symbol.TheVariants as sign
+use Rattle.parser.specs.declared.lexeme.Strength.{Strength}
+use Rattle.parser.specs.declared.lexeme.Strength.TheVariants as strength
+use Rattle.parser.specs.declared.lexeme.Opening.{Opening}
+use Rattle.parser.specs.declared.lexeme.Opening.TheVariants as opening
+use Rattle.parser.specs.Entries.{Entry}
+use Rattle.parser.specs.Entries as entry
+use Rattle.parser.specs.Marks.{keyword, Tok, is_stop, is_symbol, is_keyword, literal_of, kind_of, spelled_of, decimal_of, shift_of, opening_of, operator_at}
+use Rattle.parser.specs.Machine.{Goal, Use, part, into, Onward, Parsed, feed, expr, inner, right, used, stored, deeper, unexpected, parenthesis, begins, leading, related, stated, stepping, limited}
+use Rattle.parser.specs.Machine as goal
 use Rattle.grammar.specs.Grammar.{symbol, word, decimal}
 use Rattle.grammar.proofs.Marks.{both, symbol_is, keyword_is}
 use Rattle.grammar.proofs.Runs.{deeper_in}
@@ -148,19 +148,19 @@ inner_safe opening.Conditional p l k q s =
 inner_safe opening.Choice p l k q s =
     let h : Settled (word kw.Of 0 ∷ word kw.Begin 0 ∷ word kw.End 0 ∷ completion k) = (omega arith, refl, refl) in
     (h, (h, (h, (h, (quiet_end (completion k), s)))))
-inner_safe opening.Ahead p l k q s =
+inner_safe opening.While p l k q s =
     let h : Settled (word kw.Do 0 ∷ completion k) = (omega arith, refl, refl) in
     (h, (h, (q, s)))
-inner_safe opening.Behind p l k q s = (quiet_until (decimal 0 0 ∷ completion k), (q.0, (q.0, s)))
-inner_safe opening.Counted p l k q s = (q, s)
+inner_safe opening.Do p l k q s = (quiet_until (decimal 0 0 ∷ completion k), (q.0, (q.0, s)))
+inner_safe opening.For p l k q s = (q, s)
 
 inner_wider : (x : Opening) (p m l : ℕ) (k : List Goal) → wider m (inner x p l ++ k) ≡ inner x p (l + m) ++ wider m k
 inner_wider opening.Block p m l k = refl
 inner_wider opening.Conditional p m l k = refl
 inner_wider opening.Choice p m l k = refl
-inner_wider opening.Ahead p m l k = refl
-inner_wider opening.Behind p m l k = refl
-inner_wider opening.Counted p m l k = refl
+inner_wider opening.While p m l k = refl
+inner_wider opening.Do p m l k = refl
+inner_wider opening.For p m l k = refl
 
 used_safe : (u : Use) (a b p m : ℕ) (k : List Goal) → Settled (completion (wider m k)) → Safe (wider m k) → Safe (wider m (used u a b p k))
 used_safe part a b p m k h s = s
@@ -174,9 +174,9 @@ opener_kind : (x : Opening) → kind_of (keyword (opener x)) ≡ None
 opener_kind opening.Block = refl
 opener_kind opening.Conditional = refl
 opener_kind opening.Choice = refl
-opener_kind opening.Ahead = refl
-opener_kind opening.Behind = refl
-opener_kind opening.Counted = refl
+opener_kind opening.While = refl
+opener_kind opening.Do = refl
+opener_kind opening.For = refl
 
 -- goals that stand above others that are settled so
 abbrev Below : List Goal → Type 0

@@ -1,8 +1,8 @@
 -- What is written within some levels is written within more. Assumes nothing.
 use Rattle.std.proofs.Common.{ℕ, ◌-◌, ◌≤◌, List, arith}
-use Rattle.text.specs.declared.token.Keyword.{Keyword}
-use Rattle.syntax.specs.Marks.{Tok}
-use Rattle.trees.specs.Trees.{Expr, Clause, Cond, Step, Body, Arms, Program}
+use Rattle.lexer.specs.declared.token.Keyword.{Keyword}
+use Rattle.parser.specs.Marks.{Tok}
+use Rattle.ast.specs.Trees.{Expr, Clause, Cond, Step, Body, Arms, Program}
 use Rattle.grammar.specs.Grammar.{Rank, ExprWritten, ClauseWritten, CondWritten, StepWritten, StatementWritten, Inside, ListWritten, ArmsWritten, ProgramWritten}
 use Rattle.grammar.specs.Grammar as rule
 

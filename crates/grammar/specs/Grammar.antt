@@ -2,20 +2,20 @@
 -- `SomethingWritten .. x ts us` says: the tokens ts are x as it is written, and then the tokens us.
 -- l is the number of levels that may still be opened. A rule that opens one has 0 < l, and l - 1 inside.
 use Rattle.std.specs.Prelude.{◌≡◌, ℕ, ◌-◌, ◌<◌, Bool, true, false, List, [], ◌∷◌, ◌++◌, Some}
-use Rattle.text.specs.declared.token.Kind.{Kind}
-use Rattle.text.specs.declared.token.Kind.TheVariants as kind
-use Rattle.text.specs.declared.token.Keyword.{Keyword}
-use Rattle.text.specs.declared.token.Keyword.TheVariants as kw
-use Rattle.text.specs.declared.token.Symbol.{Symbol}
-use Rattle.text.specs.declared.token.Symbol.TheVariants as sign
-use Rattle.syntax.specs.declared.node.Operator.{Operator}
+use Rattle.lexer.specs.declared.token.Kind.{Kind}
+use Rattle.lexer.specs.declared.token.Kind.TheVariants as kind
+use Rattle.lexer.specs.declared.token.Keyword.{Keyword}
+use Rattle.lexer.specs.declared.token.Keyword.TheVariants as kw
+use Rattle.lexer.specs.declared.token.Symbol.{Symbol}
+use Rattle.lexer.specs.declared.token.Symbol.TheVariants as sign
+use Rattle.parser.specs.declared.node.Operator.{Operator}
 use Rattle.arith.specs.declared.shift.Kind.{Kind as ShiftKind}
-use Rattle.syntax.specs.declared.lexeme.Strength.{Strength}
-use Rattle.syntax.specs.declared.lexeme.Strength.TheVariants as strength
-use Rattle.syntax.specs.Marks.{Mark, Tok, is_keyword, literal_of, kind_of, shift_of, operator_at}
-use Rattle.syntax.specs.Marks as mark
-use Rattle.trees.specs.Trees.{Expr, Clause, Cond, Step, Stmt, Body, Arms, Decl, Program, joined}
-use Rattle.trees.specs.Trees as tree
+use Rattle.parser.specs.declared.lexeme.Strength.{Strength}
+use Rattle.parser.specs.declared.lexeme.Strength.TheVariants as strength
+use Rattle.parser.specs.Marks.{Mark, Tok, is_keyword, literal_of, kind_of, shift_of, operator_at}
+use Rattle.parser.specs.Marks as mark
+use Rattle.ast.specs.Trees.{Expr, Clause, Cond, Step, Stmt, Body, Arms, Decl, Program, joined}
+use Rattle.ast.specs.Trees as tree
 
 -- a token at its place: a symbol, a reserved word, a name, a decimal number
 abbrev pub at : Mark → (place : ℕ) → Tok

@@ -1,12 +1,12 @@
 -- Where the reader refuses, in the grammar's words.
 use Rattle.std.specs.Prelude.{◌≡◌, ℕ, ◌⊎◌, ◌↔◌, List, [], ◌∷◌, ◌++◌, map, Some, Err}
-use Rattle.words.specs.declared.refusal.Refusal.{Refusal}
-use Rattle.words.specs.Refusals.{refuse}
-use Rattle.text.specs.declared.token.Kind.{Kind}
-use Rattle.text.specs.Cut.{Piece}
-use Rattle.syntax.specs.Marks.{Tok, seen, kind_of}
-use Rattle.syntax.specs.Works.{parse}
-use Rattle.trees.specs.Trees.{Program}
+use Rattle.base.specs.declared.refusal.Refusal.{Refusal}
+use Rattle.base.specs.Refusals.{refuse}
+use Rattle.lexer.specs.declared.token.Kind.{Kind}
+use Rattle.lexer.specs.Cut.{Piece}
+use Rattle.parser.specs.Marks.{Tok, seen, kind_of}
+use Rattle.parser.specs.Works.{parse}
+use Rattle.ast.specs.Trees.{Program}
 use Rattle.grammar.specs.Grammar.{ProgramWritten}
 
 -- some tokens more, and they are a program within l levels

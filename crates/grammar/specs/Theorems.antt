@@ -1,14 +1,14 @@
 -- What is proved of the reader, in the grammar's words.
 use Rattle.std.specs.Prelude.{◌≡◌, ℕ, true, List, map, Ok}
-use Rattle.text.specs.declared.token.Keyword.{Keyword}
-use Rattle.text.specs.declared.token.Symbol.{Symbol}
-use Rattle.syntax.specs.declared.lexeme.Strength.{Strength}
-use Rattle.text.specs.Cut.{Piece}
-use Rattle.syntax.specs.Entries.{Entry}
-use Rattle.syntax.specs.Marks.{Tok, seen, same_symbol, same_keyword, same_strength}
-use Rattle.syntax.specs.Works.{parse, syntaxed}
-use Rattle.trees.specs.Trees.{Program}
-use Rattle.trees.specs.Lists.{list}
+use Rattle.lexer.specs.declared.token.Keyword.{Keyword}
+use Rattle.lexer.specs.declared.token.Symbol.{Symbol}
+use Rattle.parser.specs.declared.lexeme.Strength.{Strength}
+use Rattle.lexer.specs.Cut.{Piece}
+use Rattle.parser.specs.Entries.{Entry}
+use Rattle.parser.specs.Marks.{Tok, seen, same_symbol, same_keyword, same_strength}
+use Rattle.parser.specs.Works.{parse, syntaxed}
+use Rattle.ast.specs.Trees.{Program}
+use Rattle.ast.specs.Lists.{list}
 use Rattle.grammar.specs.Grammar.{ProgramWritten}
 
 -- the tokens are a program within 32 levels, and these are its entries

@@ -1,9 +1,9 @@
 -- Bytes that are added one after another.
 use Rattle.std.proofs.Common.{◌≡◌, ℕ, ◌+◌, ◌-◌, ◌<◌, ◌≤◌, List, [], ◌∷◌, ◌++◌, length, drop, Result, sym, refl, ap, ◌∙◌, append_assoc, append-nil, arith}
 use Rattle.std.proofs.lemmas.List.{length-append, length-set, drop-set-lt, drop-drop, take-append-drop}
-use Rattle.words.specs.Lists.{held, room, Pushed}
-use Rattle.words.specs.declared.list.Bounded.{Bounded}
-use Rattle.words.proofs.Pushes.{pushed}
+use Rattle.base.specs.Lists.{held, room, Pushed}
+use Rattle.base.specs.declared.list.Bounded.{Bounded}
+use Rattle.base.proofs.Pushes.{pushed}
 use Rattle.image.specs.Writing.{Appended}
 
 pub appended_push : {U : Type 0} (b : Bounded ℕ) (x : ℕ) (d : Bounded ℕ) (r : Result U ℕ) → Pushed b x d r → b.len < length (room b) → Appended b (x ∷ []) d

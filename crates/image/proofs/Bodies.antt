@@ -2,9 +2,9 @@
 use Rattle.std.proofs.Common.{◌≡◌, ℕ, ◌+◌, ◌<◌, ◌≤◌, true, false, List, [], ◌∷◌, ◌++◌, length, get_or, take, drop, Some, None, Ok, Err, Result, sym, refl, ap, ◌∙◌, append_assoc, append-nil, arith}
 use Rattle.std.proofs.lemmas.List.{length-append, take_more, drop_more, drop_all, take-append-drop}
 use Rattle.std.proofs.lemmas.Bool.{cond_both, lt-leb, le-leb}
-use Rattle.words.specs.declared.refusal.Refusal.{Refusal}
-use Rattle.words.specs.Refusals.{refuse, then}
-use Rattle.words.specs.declared.instr.Instr.{Instr}
+use Rattle.base.specs.declared.refusal.Refusal.{Refusal}
+use Rattle.base.specs.Refusals.{refuse, then}
+use Rattle.base.specs.declared.instr.Instr.{Instr}
 use Rattle.image.specs.Codes.{Code, entry_bytes, body_bytes, good_entry, good_header, image}
 use Rattle.image.specs.Groups.{written}
 use Rattle.image.specs.Writing.{size_of, judged, encoded}

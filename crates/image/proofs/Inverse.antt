@@ -2,10 +2,10 @@
 use Rattle.std.proofs.Common.{◌≡◌, ℕ, zero, suc, ◌+◌, ◌-◌, ◌≤◌, cond, eqb, ltb, List, [], ◌∷◌, ◌++◌, length, take, drop, Ok, Err, Result, sym, refl, ap, ◌∙◌, subst, arith}
 use Rattle.std.proofs.lemmas.List.{length-append, take-append-drop}
 use Rattle.std.proofs.lemmas.Bool.{ltb-false, eqb-false, cond_both}
-use Rattle.words.specs.Refusals.{refuse, then}
-use Rattle.words.specs.declared.refusal.Refusal.{Refusal}
-use Rattle.words.specs.declared.instr.Instr.{Instr}
-use Rattle.words.specs.declared.code.Figures.{Figures}
+use Rattle.base.specs.Refusals.{refuse, then}
+use Rattle.base.specs.declared.refusal.Refusal.{Refusal}
+use Rattle.base.specs.declared.instr.Instr.{Instr}
+use Rattle.base.specs.declared.code.Figures.{Figures}
 use Rattle.image.specs.Groups.{number}
 use Rattle.image.specs.Reading.{cells_at, count_at, figures_at, entry_at, entries_at, decoded, figured, laid}
 use Rattle.image.proofs.Numbers.{got}

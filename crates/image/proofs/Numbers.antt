@@ -1,8 +1,8 @@
 -- A number that is read group by group.
 use Rattle.std.proofs.Common.{◌≡◌, ℕ, ◌+◌, ◌-◌, ◌*◌, ◌%◌, ◌<◌, ◌≤◌, true, false, List, [], ◌∷◌, length, Ok, Result, refl, ap, ◌∙◌}
 use Rattle.std.proofs.lemmas.Bool.{lt-ltb, le-ltb}
-use Rattle.words.specs.Refusals.{refuse}
-use Rattle.words.specs.declared.refusal.Refusal.{Refusal}
+use Rattle.base.specs.Refusals.{refuse}
+use Rattle.base.specs.declared.refusal.Refusal.{Refusal}
 use Rattle.image.specs.Groups.{number, more, zeros_first}
 
 -- a number and the bytes after it

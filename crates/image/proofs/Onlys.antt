@@ -1,9 +1,9 @@
 -- Whatever is read was written so.
 use Rattle.std.proofs.Common.{◌≡◌, ℕ, zero, suc, ◌+◌, ◌-◌, ◌*◌, ◌/◌, ◌%◌, ◌<◌, ◌≤◌, true, false, cond, ltb, List, [], ◌∷◌, ◌++◌, length, Some, None, Ok, Option, sym, refl, ap, ◌∙◌, subst, append_assoc, append-nil, arith}
 use Rattle.std.proofs.lemmas.Bool.{ltb-true, ltb-false, eqb-false, cond_both}
-use Rattle.words.specs.Refusals.{refuse}
-use Rattle.words.specs.Ops.{operands_of}
-use Rattle.words.specs.declared.instr.Instr.{Instr}
+use Rattle.base.specs.Refusals.{refuse}
+use Rattle.base.specs.Ops.{operands_of}
+use Rattle.base.specs.declared.instr.Instr.{Instr}
 use Rattle.image.specs.Codes.{named_bytes, entry_bytes, body_bytes, unnamed_zero, good_entry}
 use Rattle.image.specs.Groups.{written, more, number, zeros_first}
 use Rattle.image.specs.Reading.{operands_at, entry_at, entries_at}

@@ -1,10 +1,10 @@
 -- What was written is read back.
 use Rattle.std.proofs.Common.{◌≡◌, ℕ, zero, suc, ◌+◌, ◌-◌, ◌*◌, ◌/◌, ◌%◌, ◌<◌, ◌≤◌, true, ◌&&◌, eqb, leb, List, [], ◌∷◌, ◌++◌, length, Some, None, Ok, Option, Result, sym, refl, ap, ◌∙◌, append_assoc, append-nil, arith}
 use Rattle.std.proofs.lemmas.Bool.{and_parts, eqb-true, leb-true, le-ltb, ne_eqb, false≢true}
-use Rattle.words.specs.Ops.{operands_of}
-use Rattle.words.specs.declared.instr.Instr.{Instr}
-use Rattle.words.specs.declared.refusal.Refusal.{Refusal}
-use Rattle.words.specs.declared.code.Figures.{Figures}
+use Rattle.base.specs.Ops.{operands_of}
+use Rattle.base.specs.declared.instr.Instr.{Instr}
+use Rattle.base.specs.declared.refusal.Refusal.{Refusal}
+use Rattle.base.specs.declared.code.Figures.{Figures}
 use Rattle.image.specs.Codes.{Code, named_bytes, entry_bytes, body_bytes, image, unnamed_zero, good_entry, good_header}
 use Rattle.image.specs.Groups.{written, number}
 use Rattle.image.specs.Reading.{Read, operands_at, entry_at, entries_at, figures_at}

@@ -1,10 +1,10 @@
 -- Codes and images answer to each other, one to one.
 use Rattle.std.proofs.Common.{◌≡◌, ℕ, ◌+◌, ◌≤◌, true, cond, ◌&&◌, leb, List, [], ◌∷◌, ◌++◌, length, Ok, Result, sym, refl, ap, ◌∙◌, subst, arith}
 use Rattle.std.proofs.lemmas.Bool.{and_from, le-leb, cond_both}
-use Rattle.words.specs.Refusals.{refuse, then}
-use Rattle.words.specs.declared.instr.Instr.{Instr}
-use Rattle.words.specs.declared.refusal.Refusal.{Refusal}
-use Rattle.words.specs.declared.code.Figures.{Figures}
+use Rattle.base.specs.Refusals.{refuse, then}
+use Rattle.base.specs.declared.instr.Instr.{Instr}
+use Rattle.base.specs.declared.refusal.Refusal.{Refusal}
+use Rattle.base.specs.declared.code.Figures.{Figures}
 use Rattle.image.specs.Codes.{Code, coded, body_bytes, image, good_header}
 use Rattle.image.specs.Groups.{written}
 use Rattle.image.specs.Reading.{figures_at, entries_at, decoded}

@@ -1,8 +1,8 @@
 -- A code, and its image.
 use Rattle.std.specs.Prelude.{ℕ, zero, suc, Bool, true, false, ◌&&◌, List, [], ◌∷◌, ◌++◌, length, Some, None, Option, ◌==◌, nat_le}
-use Rattle.words.specs.Ops.{operands_of}
-use Rattle.words.specs.declared.instr.Instr.{Instr}
-use Rattle.words.specs.declared.code.Code.{Code as Lent}
+use Rattle.base.specs.Ops.{operands_of}
+use Rattle.base.specs.declared.instr.Instr.{Instr}
+use Rattle.base.specs.declared.code.Code.{Code as Lent}
 use Rattle.image.specs.Groups.{written}
 
 -- what an image holds: the cells that the code uses, the stack that it needs, and its instructions

@@ -1,7 +1,7 @@
 -- The number and the place of each refusal of an image.
 use Rattle.image.specs.declared.fault.ImageFault.{ImageFault}
 use Rattle.image.specs.declared.fault.ImageFault.TheVariants.{CutShort, LeadingZeros, TooLarge, UnknownInstruction, BytesLeft, BadHeader, TableShort, RoomShort, BadEntry}
-use Rattle.words.specs.declared.refusal.Refusal.{Refusal}
+use Rattle.base.specs.declared.refusal.Refusal.{Refusal}
 
 abbrev pub refusal_of : ImageFault → Refusal
 refusal_of (CutShort p) = record { number = 20; place = p }

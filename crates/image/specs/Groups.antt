@@ -1,7 +1,7 @@
 -- Numbers in groups of seven bits, the high group first, with the top bit set on all but the last.
 use Rattle.std.specs.Prelude.{ℕ, ◌+◌, ◌-◌, ◌*◌, ◌/◌, ◌%◌, Bool, false, cond, List, [], ◌∷◌, length, Ok, Result, ◌==◌, nat_lt}
-use Rattle.words.specs.Refusals.{refuse}
-use Rattle.words.specs.declared.refusal.Refusal.{Refusal}
+use Rattle.base.specs.Refusals.{refuse}
+use Rattle.base.specs.declared.refusal.Refusal.{Refusal}
 
 -- how many groups a number of sixteen bits takes
 abbrev pub count : ℕ → ℕ

@@ -1,10 +1,10 @@
 -- An image as it is read, number by number.
 use Rattle.std.specs.Prelude.{ℕ, zero, suc, ◌-◌, cond, List, [], ◌∷◌, ◌++◌, length, drop, Some, None, Ok, Err, Option, Result, ◌==◌, nat_lt}
-use Rattle.words.specs.Refusals.{refuse, then}
-use Rattle.words.specs.Ops.{operands_of}
-use Rattle.words.specs.declared.refusal.Refusal.{Refusal}
-use Rattle.words.specs.declared.instr.Instr.{Instr}
-use Rattle.words.specs.declared.code.Figures.{Figures}
+use Rattle.base.specs.Refusals.{refuse, then}
+use Rattle.base.specs.Ops.{operands_of}
+use Rattle.base.specs.declared.refusal.Refusal.{Refusal}
+use Rattle.base.specs.declared.instr.Instr.{Instr}
+use Rattle.base.specs.declared.code.Figures.{Figures}
 use Rattle.image.specs.Codes.{Code}
 use Rattle.image.specs.Groups.{number}
 

@@ -1,6 +1,6 @@
 -- Codes and images answer to each other, one to one.
 use Rattle.std.specs.Prelude.{◌≡◌, ℕ, ◌<◌, ◌≤◌, true, List, [], ◌∷◌, length, Ok, slice_index}
-use Rattle.words.specs.declared.instr.Instr.{Instr}
+use Rattle.base.specs.declared.instr.Instr.{Instr}
 use Rattle.image.specs.Codes.{Code, image, good_entry, good_header}
 use Rattle.image.specs.Reading.{decoded}
 use Rattle.image.specs.Writing.{encoded}

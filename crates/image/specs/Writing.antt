@@ -1,10 +1,10 @@
 -- An image as it is written.
 use Rattle.std.specs.Prelude.{◌≡◌, ℕ, ◌+◌, ◌≤◌, cond, List, [], ◌∷◌, ◌++◌, length, drop, Some, None, Ok, Err, Option, Result, nat_le}
-use Rattle.words.specs.Lists.{held, room, Lends}
-use Rattle.words.specs.Refusals.{refuse, then}
-use Rattle.words.specs.declared.instr.Instr.{Instr}
-use Rattle.words.specs.declared.list.Bounded.{Bounded}
-use Rattle.words.specs.declared.refusal.Refusal.{Refusal}
+use Rattle.base.specs.Lists.{held, room, Lends}
+use Rattle.base.specs.Refusals.{refuse, then}
+use Rattle.base.specs.declared.instr.Instr.{Instr}
+use Rattle.base.specs.declared.list.Bounded.{Bounded}
+use Rattle.base.specs.declared.refusal.Refusal.{Refusal}
 use Rattle.image.specs.Codes.{Code, entry_bytes, image, good_entry, good_header}
 
 -- how many bytes an entry takes, if it is good

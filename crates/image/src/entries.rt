@@ -5,11 +5,11 @@ ghost use Rattle.image.specs.Reading.{entry_at, figures_at};
 
 use crate::cursor::Cursor;
 use crate::fault::ImageFault;
-use words::code::Figures;
-use words::instr::{Instr, operands};
+use base::code::Figures;
+use base::instr::{Instr, operands};
 
 impl<'a> Cursor<'a> {
-    // An instruction's number, then the operands that it names.
+    // Reads an instruction's number, then the operands that it names.
     #[tactic(auto, unfolding(crate::specs::Reading::entry_at))]
     pub(crate) fn entry(&mut self) -> Result<Instr, ImageFault>
         ensures { Took (entry_at self.old.end (rest_of self.old)) self.old self.new result }
@@ -31,7 +31,7 @@ impl<'a> Cursor<'a> {
         }
     }
 
-    // Cells, depth and count, for a table of `room` entries.
+    // Reads cells, depth and count, for a table of `room` entries.
     #[tactic(auto, unfolding(crate::specs::Reading::figures_at))]
     pub(crate) fn figures(&mut self, room: usize) -> Result<Figures, ImageFault>
         ensures { Took (figures_at self.old.end room (rest_of self.old)) self.old self.new result }

@@ -2,7 +2,7 @@
 ghost use Rattle.std.specs.Prelude.{◌≡◌};
 ghost use Rattle.image.specs.Groups.{count};
 
-// How many groups a number takes, by its highest one bit; 0 takes one.
+// How many groups a number takes. Its highest 1 bit decides; 0 takes one group.
 pub(crate) fn groups(n: u16) -> u32
     ensures { result ≡ count n }
 {

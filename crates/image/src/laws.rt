@@ -1,7 +1,8 @@
-// Codes and images answer to each other one to one.
+// The laws of images.
 ghost use Rattle.image.specs.Theorems.{OneImage, ReadsBack, OnlyImages, OneCode, WritesBack};
 
-// Each code has one image, which is read back as that code, and nothing is read but the image of a code.
+/// The laws in its contract: each code has exactly one image, which is read back as that code, and only images of codes are
+/// read. It does nothing.
 pub fn images_stand()
     ensures one_image { OneImage }
     ensures reads_back { ReadsBack }

@@ -2,20 +2,20 @@
 ghost use Rattle.std.specs.Prelude.{◌≡◌, ◌≤◌, List, [], length, take, IfOk};
 ghost use Rattle.image.specs.Codes.{coded};
 ghost use Rattle.image.specs.Theorems.{ImageOf};
-ghost use Rattle.words.specs.declared.instr.Instr.{Instr as Entry};
+ghost use Rattle.base.specs.declared.instr.Instr.{Instr as Entry};
 ghost use Rattle.image.specs.Cursors.{Walked, Ended, Filled, rest_of};
 ghost use Rattle.image.specs.Faults.{refusal_of};
 ghost use Rattle.image.specs.Reading.{entries_at, decoded, figured, laid};
-ghost use Rattle.words.specs.Refusals.{told};
+ghost use Rattle.base.specs.Refusals.{told};
 
 use crate::cursor::Cursor;
 use crate::fault::ImageFault;
-use words::code::Figures;
-use words::instr::Instr;
-use words::list::Bounded;
+use base::code::Figures;
+use base::instr::Instr;
+use base::list::Bounded;
 
 impl<'a> Cursor<'a> {
-    // No byte may be left.
+    // Checks that no byte is left.
     fn ends(&self) -> Result<(), ImageFault>
         ensures { (o : List Entry) → Ended (entries_at self.now.end 0 o (rest_of self.now)) o result }
     {
@@ -36,8 +36,7 @@ impl<'a> Cursor<'a> {
     }
 }
 
-// Reads `count` instructions and the end, and keeps them in the table. Beside `walk`, which keeps nothing: a function over
-// both would have to say what its closure keeps.
+// Reads `count` instructions and the end, and keeps the instructions in the table.
 fn fill(cursor: &mut Cursor<'_>, count: u16, table: &mut [Instr]) -> Result<(), ImageFault>
     requires { count ≤ length table.old }
     ensures { Filled (entries_at cursor.old.end count [] (rest_of cursor.old)) count table.old table.new result }
@@ -50,7 +49,10 @@ fn fill(cursor: &mut Cursor<'_>, count: u16, table: &mut [Instr]) -> Result<(), 
     cursor.ends()
 }
 
-// Reads an image into the table. What is accepted is the image of the code that then stands there. A refusal leaves the table as it was, and entries past those read keep what they held.
+/// Reads an image into the front of the table, and answers the figures of its code. Bytes are accepted only if they are the
+/// image of the code that then stands in the table. Entries of the table past that code keep what they held.
+///
+/// Refuses with 20 to 26 at the first fault; `ImageFault` says where each is met. A refusal leaves the table as it was.
 pub fn decode(bytes: &[u8], table: &mut [Instr]) -> Result<Figures, ImageFault>
     ensures answer { told refusal_of result ≡ figured (decoded (length table.old) bytes.now) }
     ensures after { table.new ≡ laid (decoded (length table.old) bytes.now) table.old }
@@ -59,7 +61,7 @@ pub fn decode(bytes: &[u8], table: &mut [Instr]) -> Result<Figures, ImageFault>
     let end = bytes.len();
     let mut cursor = Cursor { rest: bytes, end };
     let figures = cursor.figures(table.len())?;
-    // A cursor of its own judges all that follows before the table is touched.
+    // A copy of the cursor judges all that follows before the table is changed.
     let mut ahead = cursor;
     ahead.walk(figures.count)?;
     fill(&mut cursor, figures.count, table)?;

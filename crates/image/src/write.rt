@@ -4,15 +4,15 @@ ghost use Rattle.image.specs.Codes.{code_of, entry_bytes, body_bytes, good_heade
 ghost use Rattle.image.specs.Groups.{written};
 ghost use Rattle.image.specs.Faults.{refusal_of};
 ghost use Rattle.image.specs.Writing.{size_of, judged, encoded, counted, filled, HasRoom, Appended};
-ghost use Rattle.words.specs.Refusals.{told, then};
+ghost use Rattle.base.specs.Refusals.{told, then};
 
 use crate::fault::ImageFault;
 use crate::groups::groups;
-use words::code::Code;
-use words::instr::{Instr, operands};
-use words::list::Bounded;
+use base::code::Code;
+use base::instr::{Instr, operands};
+use base::list::Bounded;
 
-// How many bytes a number takes.
+/// How many bytes a number takes in an image, 1 to 3.
 pub fn size(n: u16) -> usize
     ensures value { result ≡ length (written n) }
     ensures small { result ≤ 3 }
@@ -20,7 +20,8 @@ pub fn size(n: u16) -> usize
     groups(n) as usize
 }
 
-// How many bytes an entry takes; none where no instruction has this number or an operand that is not named is not 0.
+/// How many bytes an entry takes in an image, at most 9. The answer is `None` where no instruction has its number, or where
+/// an operand that the instruction does not name is not 0.
 #[tactic(auto, unfolding(crate::specs::Codes::good_entry, crate::specs::Codes::entry_bytes))]
 pub fn entry_size(i: Instr) -> Option<usize>
     ensures value { result ≡ size_of i }
@@ -41,7 +42,7 @@ fn add(out: &mut Bounded<'_, u8>, b: u8)
     let _ = out.push(b);
 }
 
-// The groups of a number, the high one first.
+// Writes the groups of a number, the high one first.
 fn put(out: &mut Bounded<'_, u8>, n: u16)
     requires { HasRoom out.old (written n) }
     ensures { Appended out.old (written n) out.new }
@@ -63,7 +64,7 @@ fn put(out: &mut Bounded<'_, u8>, n: u16)
     }
 }
 
-// An instruction's number, then the operands that it names.
+// Writes an instruction's number, then the operands that it names.
 fn put_entry(out: &mut Bounded<'_, u8>, i: Instr)
     requires { HasRoom out.old (entry_bytes i) }
     ensures { Appended out.old (entry_bytes i) out.new }
@@ -80,7 +81,7 @@ fn put_entry(out: &mut Bounded<'_, u8>, i: Instr)
     }
 }
 
-// The instructions from first to last.
+// Writes the instructions from first to last.
 fn put_body(out: &mut Bounded<'_, u8>, code: &[Instr])
     requires { HasRoom out.old (body_bytes code.now) }
     ensures { Appended out.old (body_bytes code.now) out.new }
@@ -97,7 +98,7 @@ fn good_header(cells: u16, count: usize) -> bool
     cells <= 4096 && count >= 1 && count <= 16383
 }
 
-// Judges each entry from first to last, and measures them.
+// Judges the entries from first to last, and answers how many bytes they take.
 fn measure(code: &[Instr]) -> Result<usize, ImageFault>
     requires { length code.now ≤ 16383 }
     ensures answer { told refusal_of result ≡ then (judged 0 code.now) (λ _. Ok (length (body_bytes code.now))) }
@@ -105,7 +106,7 @@ fn measure(code: &[Instr]) -> Result<usize, ImageFault>
 {
     let mut bytes = 0;
     for (i, entry) in code.iter().enumerate() {
-        // not `ok_or(..)?`: the sum's bound is then not seen from the size that was found (tried)
+        // By `match`: with `ok_or(..)?` the bound of the sum is not proved.
         match entry_size(*entry) {
             Some(n) => bytes += n,
             None => return Err(ImageFault::BadEntry(i)),
@@ -126,8 +127,13 @@ fn lay(code: Code<'_>, out: &mut [u8])
     put_body(&mut list, code.instructions);
 }
 
-// Writes the image of a code into the room, and answers how many bytes it takes. A refusal leaves the room as it was,
-// and bytes past the image keep what they held.
+/// Writes the image of a code to the front of the room, and answers how many bytes it takes. Bytes past the image keep what
+/// they held.
+///
+/// Refuses with 28 at 0 where the cells are over 4,096 or the instructions are none or over 16,383. Refuses with 28 at the
+/// index of the first entry with a number that no instruction has, or with an operand that is not named and not 0. Refuses
+/// with 27 where the room is shorter than the image; the place is how many bytes the image takes. A refusal leaves the room
+/// as it was.
 pub fn encode(code: Code<'_>, out: &mut [u8]) -> Result<usize, ImageFault>
     ensures answer { told refusal_of result ≡ counted (encoded (length out.old) (code_of code.entry)) }
     ensures after { out.new ≡ filled (encoded (length out.old) (code_of code.entry)) out.old }

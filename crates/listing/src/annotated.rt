@@ -1,17 +1,17 @@
-// The listing of a source: below each line the instructions that come from it.
-use checks::entry::NameEntry;
+// The listing of a source. The instructions that come from a line stand below it.
+use base::instr::Instr;
+use base::op::Op;
+use lexer::search::Named;
 use report::compiled::Made;
 use report::instruction::shown;
 use report::line_map::line_map;
 use report::mark;
 use report::names::owner;
 use report::source::Lines;
+use sema::entry::NameEntry;
 use std::alloc::Global;
-use text::search::Named;
-use words::instr::Instr;
-use words::op::Op;
 
-// The first of the cells that an instruction names.
+// The first of the cells that an instruction names, if it names any.
 fn cell(i: Instr) -> Option<u16> {
     match Op::try_from(i.number) {
         Ok(Op::Load | Op::Stor | Op::Ldx | Op::Stx | Op::For | Op::Next) => Some(i.a),
@@ -24,11 +24,11 @@ struct Page<'a> {
     heap: Global,
     lines: Lines<'a>,
     names: &'a [NameEntry],
-    // the line that was shown last, and the furthest one
+    // the line that was printed last, and the largest line that was printed
     here: usize,
     far: usize,
-    // the words stacked before the next instruction. It is the same on whatever way the machine comes there: every statement leaves
-    // the stack as it found it, and each part of an expression one word more.
+    // The number of words stacked before the next instruction. It is the same on every way to that instruction,
+    // since a statement leaves the stack as it was and each part of an expression adds one word.
     height: u32,
 }
 
@@ -43,7 +43,7 @@ impl Page<'_> {
         Ok(())
     }
 
-    // Shows the lines up to this one, for the first time.
+    // Prints the lines up to `number` that were not printed yet.
     fn on_to(&mut self, rt: &HostRuntime, number: usize) -> anyhow::Result<()> {
         for number in self.far.saturating_add(1)..=number {
             self.line(rt, number)?;
@@ -52,7 +52,7 @@ impl Page<'_> {
         Ok(())
     }
 
-    // An earlier line is shown again where the code comes back to it.
+    // Prints the lines up to `number`. An earlier line is printed again if the code comes back to it.
     fn turn_to(&mut self, rt: &HostRuntime, number: usize) -> anyhow::Result<()> {
         if number > self.far {
             self.on_to(rt, number)?;
@@ -77,6 +77,7 @@ impl Page<'_> {
     }
 }
 
+/// Prints the figures of a source's code, and each line with the instructions that come from it.
 pub fn listing(rt: &HostRuntime, made: &Made) -> anyhow::Result<()> {
     let heap = rt.alloc();
     let code = made.code();

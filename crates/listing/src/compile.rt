@@ -1,15 +1,15 @@
-// `spl compile`: a source compiled into the file of its image.
+// `spl compile`: compiles a source into the file of its image.
 use anyhow::anyhow;
+use base::code::Figures;
+use base::instr::Instr;
 use image::read::decode;
+use lexer::whole::Tokens;
 use report::compiled::{MOST_INSTRUCTIONS, Made, make};
 use std::fs;
 use std::fs::File;
 use std::io::Write as _;
-use text::whole::Tokens;
-use words::code::Figures;
-use words::instr::Instr;
 
-// Whether bytes are the image, and are read back to the code that it was made of.
+// Whether `bytes` are the image, and are read back as the code from which it was made.
 fn holds(rt: &HostRuntime, made: &Made, image: &[u8], bytes: &[u8]) -> anyhow::Result<bool> {
     let mut table = vec![in rt.alloc(); Instr::default(); MOST_INSTRUCTIONS]?;
     let Figures {
@@ -27,7 +27,7 @@ fn holds(rt: &HostRuntime, made: &Made, image: &[u8], bytes: &[u8]) -> anyhow::R
     )
 }
 
-// Fills a new file to the disk, and reads it back before it takes the place of the target.
+// Writes the image to a new file and to the disk, reads it back, and gives it the name of the target.
 fn fill(
     rt: &HostRuntime,
     made: &Made,
@@ -46,7 +46,7 @@ fn fill(
     Ok(())
 }
 
-// Whether both names stand for one file.
+// Whether both names are names of one file.
 fn is_same(rt: &HostRuntime, one: &str, other: &str) -> bool {
     match (fs::canonicalize(rt, one), fs::canonicalize(rt, other)) {
         (Ok(one), Ok(other)) => one == other,
@@ -54,7 +54,7 @@ fn is_same(rt: &HostRuntime, one: &str, other: &str) -> bool {
     }
 }
 
-// Whether the folder that a path names, if it names one, is there.
+// Whether the folder of a path exists. A path without a folder passes.
 fn has_folder(rt: &HostRuntime, target: &str) -> bool {
     match target.rsplit_once('/') {
         Some((folder, _)) if !folder.is_empty() => fs::metadata(rt, folder).is_ok(),
@@ -62,7 +62,7 @@ fn has_folder(rt: &HostRuntime, target: &str) -> bool {
     }
 }
 
-// Why a file is not to be written: only a plain one is replaced, that is not the source, and no folder is made.
+// Why a file is not to be written: it is the source, its folder does not exist, or it is not a plain file.
 fn objection(rt: &HostRuntime, path: &str, target: &str) -> Option<&'static str> {
     if is_same(rt, path, target) {
         return Some("it is the source");
@@ -76,7 +76,8 @@ fn objection(rt: &HostRuntime, path: &str, target: &str) -> Option<&'static str>
     }
 }
 
-// The target is as it was, until a whole and right file takes its place. A file that stands beside it already is left alone.
+// Writes the image to the file `beside`, which then takes the name of the target. Until then the target stays as it
+// was. If `beside` exists already, nothing is written.
 fn put(
     rt: &HostRuntime,
     made: &Made,
@@ -92,7 +93,7 @@ fn put(
     Ok(())
 }
 
-// Why the image is not written, if it is not.
+// Writes the image to the target. If it is not written, prints why and fails.
 fn store(
     rt: &HostRuntime,
     made: &Made,
@@ -112,6 +113,7 @@ fn store(
     Ok(())
 }
 
+// Prints the figures of the source and of its image.
 fn figures(rt: &HostRuntime, made: &Made, image: &[u8]) -> anyhow::Result<()> {
     let source = made.source();
     let mut tokens = Tokens::new(rt.alloc())?;
@@ -127,6 +129,8 @@ fn figures(rt: &HostRuntime, made: &Made, image: &[u8]) -> anyhow::Result<()> {
     Ok(())
 }
 
+/// Compiles the source in the file `path`, writes its image to the file `target`, and prints its figures. If the
+/// source is refused or the image cannot be written, prints why and fails.
 pub fn compile(rt: &HostRuntime, path: &str, target: &str) -> anyhow::Result<()> {
     let made = make(rt, path)?;
     let image = made.image(rt.alloc())?;

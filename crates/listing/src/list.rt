@@ -1,15 +1,15 @@
-// `spl list`: what an image holds, or a source with the code that its lines give.
+// `spl list`: the contents of an image, or a source with the code of its lines.
 use crate::annotated::listing;
 use anyhow::anyhow;
+use base::code::Figures;
+use base::instr::Instr;
+use base::refusal::Refusal;
 use image::fault::ImageFault;
 use image::read::decode;
 use image::write::{entry_size, size};
 use report::compiled::{MOST_INSTRUCTIONS, make};
 use report::instruction::shown;
 use report::source::load;
-use words::code::Figures;
-use words::instr::Instr;
-use words::refusal::Refusal;
 
 fn lines(rt: &HostRuntime, figures: Figures, bytes: usize, code: &[Instr]) -> anyhow::Result<()> {
     let Figures {
@@ -33,7 +33,9 @@ fn refused(rt: &HostRuntime, path: &str, fault: ImageFault) -> anyhow::Result<()
     Err(anyhow!("the image is refused"))
 }
 
-// A file is an image if its name says so or if its bytes are one; any other is a source.
+/// Prints the figures and the instructions of the image in a file, or the lines of a source with the code of each.
+/// A file is an image if its name ends in `.image` or if its bytes are an image; every other file is a source. If
+/// image or source is refused, prints why and fails.
 pub fn list(rt: &HostRuntime, path: &str) -> anyhow::Result<()> {
     let bytes = load(rt, path)?;
     let mut table = vec![in rt.alloc(); Instr::default(); MOST_INSTRUCTIONS]?;

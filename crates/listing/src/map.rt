@@ -1,12 +1,12 @@
-// `spl map`: the names of a source, their cells, and where each is declared, written and read.
-use checks::entry::{NameEntry, Sort};
+// `spl map`: the names of a source, their cells, and where each name is declared, written and read.
+use lexer::name::Name;
+use lexer::search::{Named, find};
+use parser::node::Node;
 use report::compiled::make;
 use report::source::Lines;
+use sema::entry::{NameEntry, Sort};
 use std::alloc::Global;
 use std::fmt::Write;
-use syntax::node::Node;
-use text::name::Name;
-use text::search::{Named, find};
 
 #[derive(Clone, Copy, PartialEq, Eq, Debug)]
 enum How {
@@ -15,16 +15,19 @@ enum How {
     Read,
 }
 
-// A name where it stands in the source: its place in the table of names, and its own place.
+// One use of a name.
 #[derive(Clone, Copy)]
 struct Mention {
+    // the index of the name in the table of names
     name: usize,
     how: How,
+    // the place of the use in the source
     place: usize,
 }
 
-// The name that an entry has, what is done to it, and its place. A FOR names its variable at its first value. The subscript
-// left of `:=` has an entry of its own before that of the assignment; a field's assignment has one more, which reads the word.
+// The name that an entry has, what is done to it, and its place. The variable of a FOR is written at the entry of
+// its first value. An assignment to a field has an entry before it that reads the word. The entry of a subscript
+// left of `:=` is passed over, since the entry of the assignment has the name too.
 fn mentioned(node: Node) -> Option<(Name, How, usize)> {
     match node {
         Node::Simple(name, _, place) | Node::Array(name, _, _, _, place, _) => {
@@ -40,7 +43,7 @@ fn mentioned(node: Node) -> Option<(Name, How, usize)> {
     }
 }
 
-// In the order of their places.
+// The uses of names, in the order of their places.
 fn mentions(heap: Global, nodes: &[Node], names: &[NameEntry]) -> anyhow::Result<Vec<Mention>> {
     let mut list = Vec::new(heap);
     for node in nodes {
@@ -63,7 +66,7 @@ struct NameMap<'a> {
 }
 
 impl NameMap<'_> {
-    // The lines on which something is done to a name, each once, after what it is.
+    // Appends `what`, and the lines on which that is done to a name, each line once.
     fn put_lines(&self, out: &mut String, name: usize, how: How, what: &str) -> anyhow::Result<()> {
         let mut last = 0;
         for mention in self.mentions.as_slice() {
@@ -141,6 +144,8 @@ fn rows(rt: &HostRuntime, map: &NameMap<'_>, cells: u16) -> anyhow::Result<()> {
     Ok(())
 }
 
+/// Prints the names of the source in a file: type, bounds, cells, the lines of each use, and which names are never
+/// used. If the source is refused, prints why and fails.
 pub fn map(rt: &HostRuntime, path: &str) -> anyhow::Result<()> {
     let heap = rt.alloc();
     let made = make(rt, path)?;

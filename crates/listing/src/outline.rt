@@ -1,18 +1,18 @@
-// `spl parse`: an outline of a source. The syntax list is gone over once; what a statement reads stands in it before the
-// statement's own entry.
+// `spl parse`: an outline of a source. The syntax list is gone through once. The entries of what a statement reads
+// come before the statement's own entry.
+use lexer::name::Name;
+use lexer::search::{Named, find};
+use lexer::token::Kind;
+use parser::node::Node;
+use parser::workspace::Workspace;
 use report::fields::Problem;
 use report::mark::tell;
 use report::names::put_text;
 use report::source::{Spot, load};
 use std::alloc::Global;
 use std::fmt::Write;
-use syntax::node::Node;
-use syntax::workspace::Workspace;
-use text::name::Name;
-use text::search::{Named, find};
-use text::token::Kind;
 
-// A statement that holds others; of a CASE, how many of them have begun.
+// A statement that contains others. A CASE has the number of those that have begun.
 #[derive(Clone, Copy)]
 enum Holder {
     If,
@@ -22,14 +22,14 @@ enum Holder {
     Case(usize),
 }
 
-// A name, and where it is used.
+// A name, and the place where it is used.
 #[derive(Clone, Copy)]
 struct Use {
     name: Name,
     place: usize,
 }
 
-// The names used, each once, as they stand in the source.
+// The names used, each once, in the order of their first places.
 fn distinct(heap: Global, uses: &[Use]) -> Result<Vec<Name>, Problem> {
     let mut sorted = Vec::from_slice(heap, uses)?;
     sorted.sort_by_key(|used| used.place)?;
@@ -59,14 +59,14 @@ fn put_names(out: &mut String, names: &[Name]) -> Result<(), Problem> {
 struct Outline<'a> {
     heap: Global,
     source: &'a [u8],
-    // the place that was shown last
+    // the place that was printed last
     spot: Spot,
-    // the statements that hold the next entry, from the outermost
+    // the statements that contain the next entry, the outermost first
     around: Vec<Holder>,
     uses: Vec<Use>,
-    // how many of the uses belong to what was printed
+    // how many of the uses belong to printed lines
     told: usize,
-    // where the condition begins that is being read
+    // where the condition that is being read begins
     condition: Option<usize>,
     // the field left of `:=`
     field: Option<(u16, u16)>,
@@ -90,7 +90,7 @@ impl Outline<'_> {
         }
     }
 
-    // The names read since the last line, behind what reads them.
+    // Appends the names read since the last line.
     fn put_reads(&mut self, out: &mut String) -> Result<(), Problem> {
         let uses = self.uses.as_slice().get(self.told..).unwrap_or(&[]);
         let names = distinct(self.heap, uses)?;
@@ -102,7 +102,7 @@ impl Outline<'_> {
         put_names(out, names.as_slice())
     }
 
-    // A line of the outline, with its number in the source where its place is known.
+    // Prints a line of the outline, with the number of its line in the source if its place is known.
     fn line(
         &mut self,
         rt: &HostRuntime,
@@ -123,7 +123,7 @@ impl Outline<'_> {
         Ok(())
     }
 
-    // A line of the innermost statement that holds others.
+    // Prints a line of the innermost statement that contains others.
     fn held(&mut self, rt: &HostRuntime, place: Option<usize>, what: &str) -> anyhow::Result<()> {
         let depth = self.around.len().saturating_sub(1);
         self.line(rt, depth, place, what)
@@ -151,7 +151,7 @@ impl Outline<'_> {
         Ok(())
     }
 
-    // A name that a statement writes is used, but not read.
+    // Notes a name that a statement writes. It is used, but it is not read.
     fn written(&mut self, name: Name, place: usize) -> anyhow::Result<()> {
         self.uses.push(Use { name, place })?;
         self.told = self.uses.len();
@@ -198,7 +198,7 @@ impl Outline<'_> {
         put_text(&mut what, name.name())?;
         what.push_str(subscript)?;
         if let Some((first, second)) = self.field.take() {
-            // the rest of its word is kept, and so it is read
+            // the other bits of the word stay, so the word is read
             self.read(name, place)?;
             write!(what, ".({first}:{second})")?;
         }
@@ -209,7 +209,7 @@ impl Outline<'_> {
         self.written(name, place)
     }
 
-    // Behind the condition of an IF or a WHILE.
+    // Comes after the condition of an IF or a WHILE.
     fn then(&mut self, rt: &HostRuntime) -> anyhow::Result<()> {
         let place = self.condition.take();
         if let Some(Holder::While) = self.around.last() {
@@ -219,14 +219,14 @@ impl Outline<'_> {
         self.held(rt, None, "THEN")
     }
 
-    // Behind the condition of a DO.
+    // Comes after the condition of a DO.
     fn until(&mut self, rt: &HostRuntime) -> anyhow::Result<()> {
         let place = self.condition.take();
         self.held(rt, place, "UNTIL")?;
         self.end()
     }
 
-    // Behind the limit of a FOR.
+    // Comes after the limit of a FOR.
     fn counted(
         &mut self,
         rt: &HostRuntime,
@@ -242,7 +242,7 @@ impl Outline<'_> {
         self.written(name, place)
     }
 
-    // Before a statement of a CASE.
+    // Comes before each statement of a CASE.
     fn arm(&mut self, rt: &HostRuntime) -> anyhow::Result<()> {
         let Some(Holder::Case(begun)) = self.around.last_mut() else {
             return Ok(());
@@ -291,7 +291,7 @@ impl Outline<'_> {
         }
     }
 
-    // How many statements there are, how deep they stand, and the names that they use.
+    // Prints how many statements there are, how deep they stand, and which names they use.
     fn summary(&self, rt: &HostRuntime) -> anyhow::Result<()> {
         let names = distinct(self.heap, self.uses.as_slice())?;
         let mut text = String::new(self.heap);
@@ -311,6 +311,8 @@ fn lines(rt: &HostRuntime, source: &[u8], nodes: &[Node]) -> anyhow::Result<()> 
     outline.summary(rt)
 }
 
+/// Prints an outline of the source in a file: declarations and statements, each with its line and the names that it
+/// reads. If the text or the grammar refuses the source, prints why and fails.
 pub fn parse(rt: &HostRuntime, path: &str) -> anyhow::Result<()> {
     let source = load(rt, path)?;
     let mut work = Workspace::new(rt.alloc())?;

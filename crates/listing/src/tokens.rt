@@ -1,12 +1,12 @@
-// `spl tokens`: a source cut into tokens.
+// `spl tokens`: the tokens of a source.
+use lexer::reserved::keyword;
+use lexer::token::{Kind, Token};
+use lexer::whole::Tokens;
 use report::mark::tell;
 use report::source::{Spot, load};
 use report::tokens::place_of;
-use text::reserved::keyword;
-use text::token::{Kind, Token};
-use text::whole::Tokens;
 
-// What kind of token it is, and its text and value.
+// Prints the kind of a token, its text, and the value of a number.
 fn describe(rt: &HostRuntime, t: &Token<'_>) -> anyhow::Result<()> {
     match t {
         Token::Word(w, _) => {
@@ -39,6 +39,8 @@ fn lines(rt: &HostRuntime, source: &[u8], tokens: &[Token<'_>]) -> anyhow::Resul
     Ok(())
 }
 
+/// Prints the tokens of the source in a file, each with its line, column and place. If the text is refused, prints
+/// why and fails.
 pub fn tokens(rt: &HostRuntime, path: &str) -> anyhow::Result<()> {
     let source = load(rt, path)?;
     let mut list = Tokens::new(rt.alloc())?;

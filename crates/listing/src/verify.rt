@@ -1,15 +1,15 @@
-// `spl verify`: whether an image is the one of a source; if not, where they part.
+// `spl verify`: whether an image is the image of a source, and if not, where they differ.
 use anyhow::anyhow;
+use base::code::Code;
+use base::instr::Instr;
+use base::refusal::Refusal;
 use image::fault::ImageFault;
 use image::read::decode;
 use report::compiled::{MOST_INSTRUCTIONS, Made, make};
 use report::instruction::shown;
 use report::source::load;
-use words::code::Code;
-use words::instr::Instr;
-use words::refusal::Refusal;
 
-// A figure that differs.
+// Prints a figure if it differs.
 fn figure(rt: &HostRuntime, what: &str, source: usize, image: usize) -> anyhow::Result<()> {
     if source != image {
         println!(rt; "{what}: {source} of the source, {image} of the image")?;
@@ -17,7 +17,7 @@ fn figure(rt: &HostRuntime, what: &str, source: usize, image: usize) -> anyhow::
     Ok(())
 }
 
-// An instruction, or that there is none.
+// Prints an instruction, or that there is none.
 fn put(rt: &HostRuntime, whose: &str, i: Option<&Instr>) -> anyhow::Result<()> {
     match i {
         Some(i) => {
@@ -29,7 +29,7 @@ fn put(rt: &HostRuntime, whose: &str, i: Option<&Instr>) -> anyhow::Result<()> {
     Ok(())
 }
 
-// The first index at which two codes are not alike.
+// The first index at which two codes differ, if they do.
 fn parting(source: &[Instr], image: &[Instr]) -> Option<usize> {
     let shorter = source.len().min(image.len());
     source
@@ -59,7 +59,7 @@ fn refused(rt: &HostRuntime, fault: ImageFault) -> anyhow::Result<()> {
     Ok(())
 }
 
-// What the bytes hold that are not the image.
+// Prints how the bytes differ from the image, or why they are no image.
 fn tell(rt: &HostRuntime, made: &Made, bytes: &[u8]) -> anyhow::Result<()> {
     let mut table = vec![in rt.alloc(); Instr::default(); MOST_INSTRUCTIONS]?;
     match decode(bytes, table.as_mut_slice()) {
@@ -76,6 +76,8 @@ fn tell(rt: &HostRuntime, made: &Made, bytes: &[u8]) -> anyhow::Result<()> {
     }
 }
 
+/// Compiles the source in the file `path`, and prints whether the bytes of the file `target` are its image. If they
+/// are not, prints where they differ and fails. If the source is refused, prints why and fails.
 pub fn verify(rt: &HostRuntime, path: &str, target: &str) -> anyhow::Result<()> {
     let made = make(rt, path)?;
     let image = made.image(rt.alloc())?;

@@ -1,6 +1,6 @@
 -- Runs that go on by a step, and runs that end early.
 use Rattle.std.proofs.Common.{◌≡◌, ℕ, suc, ◌+◌, ◌-◌, ◌≤◌, List, Some, None, Option, sym, refl, ap, ◌∙◌, arith}
-use Rattle.words.specs.declared.instr.Instr.{Instr}
+use Rattle.base.specs.declared.instr.Instr.{Instr}
 use Rattle.machine.specs.declared.ending.Ending.{Ending}
 use Rattle.machine.specs.Machine.{State, step, run}
 use Rattle.machine.proofs.Runs.{run_ended, run_on}

@@ -1,7 +1,7 @@
 -- The operands' rules and the table of named operands.
 use Rattle.std.proofs.Common.{◌≡◌, ℕ, true, ◌&&◌, eqb, leb, refl}
 use Rattle.std.proofs.lemmas.Bool.{and_parts, eqb-true}
-use Rattle.words.specs.Ops.{ops, operands_of}
+use Rattle.base.specs.Ops.{ops, operands_of}
 use Rattle.machine.specs.Table.{plain, single}
 use Rattle.machine.specs.Laws.{Named}
 

@@ -1,11 +1,11 @@
 -- The loop over a list of calls.
 use Rattle.std.proofs.Common.{◌≡◌, ℕ, Result, ◌+◌, ◌<◌, ◌≤◌, List, [], ◌∷◌, ◌++◌, length, get_or, take, drop, set, sym, ap, ◌∙◌, append_assoc}
 use Rattle.std.proofs.lemmas.List.{drop_more, drop_all, take_all, append-nil, take_more_set}
-use Rattle.words.specs.declared.instr.Instr.{Instr}
+use Rattle.base.specs.declared.instr.Instr.{Instr}
 use Rattle.machine.specs.Machine.{State}
 use Rattle.machine.specs.declared.call.Call.{Call}
 use Rattle.machine.specs.declared.call.Answer.{Answer}
-use Rattle.words.specs.declared.refusal.Refusal.{Refusal}
+use Rattle.base.specs.declared.refusal.Refusal.{Refusal}
 use Rattle.machine.specs.Calls.{answer_of, left_by, played, answers_of}
 
 module _ (c d : ℕ) (P : List Instr) (xs : List Call) (i : ℕ) (e : Call) (h : i < length xs) where

@@ -1,6 +1,6 @@
 -- Runs of steps.
 use Rattle.std.proofs.Common.{◌≡◌, ℕ, zero, suc, ◌+◌, List, Some, refl, ap, ◌∙◌, arith}
-use Rattle.words.specs.declared.instr.Instr.{Instr}
+use Rattle.base.specs.declared.instr.Instr.{Instr}
 use Rattle.machine.specs.declared.ending.Ending.{Ending}
 use Rattle.machine.specs.declared.ending.Ending.TheVariants.{Halted, Stopped, Missing, TooHigh, BadOperand, Outside}
 use Rattle.arith.specs.declared.stop.Stop.TheVariants.{Overflow, ZeroDivisor, BadIndex, BadCase}

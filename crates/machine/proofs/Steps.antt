@@ -1,7 +1,7 @@
 -- What one step keeps, whatever the instruction.
 use Rattle.std.proofs.Common.{◌≡◌, ℕ, ◌+◌, ◌-◌, ◌≤◌, Bool, true, false, cond, ltb, List, length, is_some, Some, None, Ok, Err, Option, Result, sym, refl, ap, ◌∙◌, inl, inr, arith}
 use Rattle.std.proofs.lemmas.Bool.{ltb-true, le-ltb, cond-false, true≢false, false≢true}
-use Rattle.words.specs.declared.instr.Instr.{Instr}
+use Rattle.base.specs.declared.instr.Instr.{Instr}
 use Rattle.machine.specs.declared.ending.Ending.{Ending}
 use Rattle.machine.specs.declared.ending.Ending.TheVariants.{TooHigh, Outside}
 use Rattle.machine.specs.declared.vm.Move.{Move}

@@ -1,9 +1,9 @@
 -- Lists of calls: what each answers, and what it leaves for the next.
 use Rattle.std.specs.Prelude.{ℕ, List, [], ◌∷◌, map, Ok, Result}
-use Rattle.words.specs.declared.instr.Instr.{Instr}
-use Rattle.words.specs.declared.refusal.Refusal.{Refusal}
-use Rattle.words.specs.Refusals.{told, then}
-use Rattle.words.specs.Stores.{read_of}
+use Rattle.base.specs.declared.instr.Instr.{Instr}
+use Rattle.base.specs.declared.refusal.Refusal.{Refusal}
+use Rattle.base.specs.Refusals.{told, then}
+use Rattle.base.specs.Stores.{read_of}
 use Rattle.machine.specs.Machine.{State}
 use Rattle.machine.specs.declared.call.Call.{Call}
 use Rattle.machine.specs.declared.call.Call.TheVariants.{Resume, Look, Report}

@@ -1,7 +1,7 @@
 -- The number and the place of each refusal of a session, and of a call.
 use Rattle.std.specs.Prelude.{ℕ}
-use Rattle.words.specs.declared.refusal.Refusal.{Refusal}
-use Rattle.words.specs.Stores.{refusal_of as store_refusal}
+use Rattle.base.specs.declared.refusal.Refusal.{Refusal}
+use Rattle.base.specs.Stores.{refusal_of as store_refusal}
 use Rattle.machine.specs.declared.fault.SessionFault.{SessionFault}
 use Rattle.machine.specs.declared.fault.SessionFault.TheVariants.{BadCode, ShortStack, ShortStore, NoSteps, Ended, UsedUp}
 use Rattle.machine.specs.declared.fault.CallFault.{CallFault}

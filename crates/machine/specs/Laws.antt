@@ -1,8 +1,8 @@
 -- What a step does, whatever the instruction.
 use Rattle.std.specs.Prelude.{◌≡◌, ℕ, zero, suc, ◌+◌, ◌-◌, ◌<◌, ◌≤◌, true, ◌⊎◌, List, [], ◌∷◌, length, Some, None, Option, slice_index, slice_set}
-use Rattle.words.specs.Ops.{ops, operands_of}
-use Rattle.words.specs.declared.instr.Instr.{Instr}
-use Rattle.words.specs.declared.op.Op.{Op}
+use Rattle.base.specs.Ops.{ops, operands_of}
+use Rattle.base.specs.declared.instr.Instr.{Instr}
+use Rattle.base.specs.declared.op.Op.{Op}
 use Rattle.machine.specs.declared.ending.Ending.{Ending}
 use Rattle.machine.specs.Endings.{numbered, number_of}
 use Rattle.machine.specs.declared.vm.Move.{Move}

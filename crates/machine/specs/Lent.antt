@@ -1,6 +1,6 @@
 -- A session over what it is lent.
 use Rattle.std.specs.Prelude.{◌≡◌, ℕ, List, length, Result}
-use Rattle.words.specs.declared.refusal.Refusal.{Refusal}
+use Rattle.base.specs.declared.refusal.Refusal.{Refusal}
 use Rattle.machine.specs.Machine.{State, state}
 use Rattle.machine.specs.Sessions.{fitting, resumed, left}
 use Rattle.machine.specs.Calls.{answer_of, left_by, answers_of, played}

@@ -1,6 +1,6 @@
 -- A machine over what it is lent.
 use Rattle.std.specs.Prelude.{◌≡◌, ℕ, List}
-use Rattle.words.specs.Lists.{room, Lends}
+use Rattle.base.specs.Lists.{room, Lends}
 use Rattle.machine.specs.declared.machine.Machine.{Machine}
 use Rattle.machine.specs.declared.vm.Vm.{Vm}
 use Rattle.machine.specs.Machine.{State, state}

@@ -1,9 +1,9 @@
 -- What each call of a session answers and leaves. Refusals stand by number and place.
 use Rattle.std.specs.Prelude.{◌≡◌, ℕ, ◌-◌, min, cond, ◌||◌, List, length, is_some, None, Ok, Err, Result, ◌==◌, nat_le, nat_lt}
-use Rattle.words.specs.declared.code.Code.{Code}
-use Rattle.words.specs.declared.instr.Instr.{Instr}
-use Rattle.words.specs.declared.refusal.Refusal.{Refusal}
-use Rattle.words.specs.Refusals.{refuse, then}
+use Rattle.base.specs.declared.code.Code.{Code}
+use Rattle.base.specs.declared.instr.Instr.{Instr}
+use Rattle.base.specs.declared.refusal.Refusal.{Refusal}
+use Rattle.base.specs.Refusals.{refuse, then}
 use Rattle.machine.specs.declared.vm.Vm.{Vm}
 use Rattle.machine.specs.Machine.{State, state, run}
 use Rattle.machine.specs.declared.session.Session.{Session}

@@ -7,15 +7,15 @@ use Rattle.arith.specs.Relations.{relation_of, compared, lcompared}
 use Rattle.arith.specs.Bits.{complement}
 use Rattle.arith.specs.Fields.{is_field, field, deposited}
 use Rattle.arith.specs.Shifts.{is_shift, kind_of, shifted}
-use Rattle.words.specs.declared.instr.Instr.{Instr}
-use Rattle.words.specs.Ops.{ops, taken_by}
+use Rattle.base.specs.declared.instr.Instr.{Instr}
+use Rattle.base.specs.Ops.{ops, taken_by}
 use Rattle.machine.specs.declared.ending.Ending.{Ending}
 use Rattle.machine.specs.declared.ending.Ending.TheVariants.{Stopped}
 use Rattle.machine.specs.Endings.{ends}
 use Rattle.machine.specs.declared.vm.Move.{Move}
 use Rattle.machine.specs.declared.vm.Move.TheVariants.{On, Push, Write}
-use Rattle.words.specs.declared.op.Op.{Op}
-use Rattle.words.specs.declared.op.Op.TheVariants.{Halt, Lit, Load, Stor, Ldx, Stx, Chk, Dup, Drop, Add, Sub, Mul, Div, Rem, Neg, Ladd, Lsub, Lmul, Ldiv, Lrem, Cmp, Lcmp, And, Or, Xor, Not, Fld, Dep, Shf, Br, Bre, Case, For, Next}
+use Rattle.base.specs.declared.op.Op.{Op}
+use Rattle.base.specs.declared.op.Op.TheVariants.{Halt, Lit, Load, Stor, Ldx, Stx, Chk, Dup, Drop, Add, Sub, Mul, Div, Rem, Neg, Ladd, Lsub, Lmul, Ldiv, Lrem, Cmp, Lcmp, And, Or, Xor, Not, Fld, Dep, Shf, Br, Bre, Case, For, Next}
 
 -- the instruction of a number, if there is one
 abbrev pub known : Option Op → Result Op Ending

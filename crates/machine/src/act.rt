@@ -1,15 +1,15 @@
 // What one instruction does, worked out without changing anything.
 ghost use Rattle.std.specs.Prelude.{◌≡◌, ◌<◌};
-ghost use Rattle.words.specs.Lists.{room};
+ghost use Rattle.base.specs.Lists.{room};
 ghost use Rattle.machine.specs.Table.{decoded, moved};
 
 use super::ending::Ending;
 use super::view::View;
 use super::vm::Move;
-use words::instr::Instr;
-use words::list::Bounded;
-use words::op::Op;
-use words::store::Store;
+use base::instr::Instr;
+use base::list::Bounded;
+use base::op::Op;
+use base::store::Store;
 
 // The instruction of a number.
 #[inline(always)]
@@ -20,6 +20,7 @@ fn decode(number: u16) -> Result<Op, Ending>
     Ok(Op::try_from(number)?)
 }
 
+// The move that the instruction at this place makes, or the ending.
 #[inline(always)]
 pub(crate) fn act<S: Store>(
     i: &Instr,

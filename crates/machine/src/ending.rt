@@ -5,23 +5,29 @@ ghost use Rattle.machine.specs.Endings.{number_of, numbered};
 
 use arith::relation::UnknownRelation;
 use arith::stop::Stop;
+use base::op::UnknownOp;
+use base::store::StoreFault;
 use thiserror::Error;
-use words::op::UnknownOp;
-use words::store::StoreFault;
 
+/// How a run ends. No ending has the number 5.
 #[derive(Clone, Copy, PartialEq, Eq, Debug, Error)]
 pub enum Ending {
+    /// Ending 0: the code has halted.
     #[error("the code has halted")]
     Halted,
-    // an operation on words has no answer
+    /// Endings 1 to 4: an operation on words has no answer. The number is that of the stop.
     #[error(transparent)]
     Stopped(Stop),
+    /// Ending 6: the stack has fewer words than the instruction wants.
     #[error("the stack has too few words")]
     Missing,
+    /// Ending 7: a push would pass the depth of the stack.
     #[error("the stack would grow above its depth")]
     TooHigh,
+    /// Ending 8: no instruction has the number, or an operand is outside its rules.
     #[error("there is no such instruction, or an operand is outside its rules")]
     BadOperand,
+    /// Ending 9: the place is past the code, or a cell is past the store.
     #[error("there is no instruction at the place, or no such cell in the store")]
     Outside,
 }
@@ -41,8 +47,7 @@ impl From<Ending> for u8 {
     }
 }
 
-// By hand: a derived one says nothing of the error that `?` makes; and the cases of those below hold no error, so that none
-// can be derived.
+// By hand, like those below: a derive gives no contract.
 impl From<Stop> for Ending {
     ghost from_gives = { λ e r. r ≡ Stopped e };
 

@@ -3,22 +3,29 @@ ghost use Rattle.std.specs.Prelude.{◌≡◌};
 ghost use Rattle.machine.specs.declared.fault.CallFault.TheVariants.{Session, Store};
 ghost use Rattle.machine.specs.Faults.{refusal_of, call_refusal};
 
+use base::refusal::Refusal;
+use base::store::StoreFault;
 use thiserror::Error;
-use words::refusal::Refusal;
-use words::store::StoreFault;
 
+/// Why a session is not started or resumed. The place of each refusal is 0.
 #[derive(Clone, Copy, PartialEq, Eq, Debug, Error)]
 pub enum SessionFault {
+    /// Refusal 30: the code has no instruction, or over 16,383.
     #[error("the code has no instruction, or more than 16383")]
     BadCode,
+    /// Refusal 31: the lent stack has fewer words than the depth.
     #[error("the stack has fewer words than the code needs")]
     ShortStack,
+    /// Refusal 32: the store has fewer cells than the code uses.
     #[error("the store has fewer cells than the code uses")]
     ShortStore,
+    /// Refusal 33: the limit of a resume is 0.
     #[error("the limit is 0 steps")]
     NoSteps,
+    /// Refusal 34: the run has ended.
     #[error("the run has ended")]
     Ended,
+    /// Refusal 35: all 4,000,000,000 steps were made.
     #[error("all 4000000000 steps were made")]
     UsedUp,
 }
@@ -39,11 +46,13 @@ impl From<SessionFault> for Refusal {
     }
 }
 
-// Why a call has no answer.
+/// Why a call has no answer.
 #[derive(Clone, Copy, PartialEq, Eq, Debug, Error)]
 pub enum CallFault {
+    /// A resume was refused.
     #[error(transparent)]
     Session(SessionFault),
+    /// A look was refused.
     #[error(transparent)]
     Store(StoreFault),
 }
@@ -59,7 +68,7 @@ impl From<CallFault> for Refusal {
     }
 }
 
-// By hand, as the one below: a derived one says nothing of the error that `?` makes.
+// By hand, like the one below: a derive gives no contract.
 impl From<SessionFault> for CallFault {
     ghost from_gives = { λ e r. r ≡ Session e };
 

@@ -1,7 +1,8 @@
 // The laws of a step.
 ghost use Rattle.machine.specs.Laws.{Lawful};
 
-// An ending step changes only the ending and the count; a step writes at most one cell, and counts it.
+/// The laws in its contract: an ending step changes only the ending and the count of steps, and a step writes at most one
+/// cell and counts the write. docs/MACHINE.md has the others. It does nothing.
 pub fn steps_are_lawful()
     ensures { Lawful }
 {}

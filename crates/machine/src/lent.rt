@@ -1,11 +1,13 @@
 // What the calls of a session are lent.
-use words::instr::Instr;
+use base::instr::Instr;
 
-// The code, the words for the stack, and the store. A session looks at them anew at every call; a machine, which is made only
-// where they will do, holds them with facts that these do not have yet.
+/// What a caller lends to a call of a session. It may be anything: the start and each resume judge it.
 #[derive(Drop)]
 pub struct Lent<'a, 'b, 'c, S> {
+    /// The instructions of the code, from index 0.
     pub code: &'a [Instr],
+    /// The words for the stack, the lowest first.
     pub stack: &'b mut [u16],
+    /// The store of the cells.
     pub store: &'c mut S,
 }

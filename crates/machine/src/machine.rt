@@ -1,17 +1,18 @@
-// A machine that can make steps. No other crate sees it: a session makes one where what it was lent will do.
+// A machine that can make steps. No other crate sees it: a session makes one after it has judged what it was lent.
 ghost use Rattle.std.specs.Prelude.{◌<◌, ◌≤◌, length};
-ghost use Rattle.words.specs.Lists.{room};
+ghost use Rattle.base.specs.Lists.{room};
 
 use super::ending::Ending;
-use words::instr::Instr;
-use words::list::Bounded;
+use base::instr::Instr;
+use base::list::Bounded;
 
 mod steps;
 
-// The steps of a machine at most.
+// The most steps that a machine makes.
 pub(crate) const LIMIT: u64 = 4000000000;
 
-// Its code, the depth of its stack, the words stacked, its store, and the other registers. The height is the length of the list.
+// A machine has its code, the depth of its stack, the words stacked, its store, and the other registers. The height is the
+// length of the list.
 #[derive(Drop)]
 pub(crate) struct Machine<'a, 'b, 'c, 'd, S> {
     pub code: &'a [Instr],

@@ -1,11 +1,12 @@
-// A session keeps the cells and the depth that it was started with, and the registers. Code, stack and store are lent at
-// every call, and looked at anew.
+// A code on the machine, from call to call.
 ghost use Rattle.std.specs.Prelude.{◌<◌, ◌≤◌};
 
 use crate::vm::Vm;
 
 mod calls;
 
+/// A session keeps the cells and the depth that it was started with, and the registers. Code, stack and store are lent to it
+/// at every call, and each resume judges them anew.
 #[derive(Drop)]
 pub struct Session {
     cells: u16,

@@ -1,6 +1,6 @@
 // The single run: it starts, resumes once, and leaves every stack word zero.
 ghost use Rattle.std.specs.Prelude.{◌≡◌, length, replicate};
-ghost use Rattle.words.specs.Refusals.{told};
+ghost use Rattle.base.specs.Refusals.{told};
 ghost use Rattle.machine.specs.Faults.{refusal_of};
 ghost use Rattle.machine.specs.Sessions.{registers, single as single_of, single_leaves};
 
@@ -8,10 +8,10 @@ use crate::fault::SessionFault;
 use crate::lent::Lent;
 use crate::session::Session;
 use crate::vm::Vm;
-use words::code::Code;
-use words::store::Store;
+use base::code::Code;
+use base::store::Store;
 
-// Stack words that are zeroed when the guard goes out of scope.
+// A guard over the stack words, which sets them all to zero when it goes out of scope.
 struct Wipe<'a> {
     words: &'a mut [u16],
 }
@@ -44,7 +44,8 @@ fn once<S: Store>(
     session.resume(&mut lent, limit)
 }
 
-// Starts and resumes once. The stack words are all zero afterwards, on every way out.
+/// Starts a session of the code, resumes it once with `limit` steps, and answers the registers. Refuses with 30 to 33 as the
+/// start and the resume do; the store is then as it was. The stack words are all zero afterwards, after a refusal too.
 pub fn single<S: Store>(
     code: Code<'_>,
     stack: &mut [u16],

@@ -1,6 +1,6 @@
 // What an instruction looks at, and what it does.
 ghost use Rattle.std.specs.Prelude.{◌≡◌, ◌-◌, ◌<◌, ◌≤◌, IfOk, slice_index};
-ghost use Rattle.words.specs.Lists.{room};
+ghost use Rattle.base.specs.Lists.{room};
 ghost use Rattle.machine.specs.declared.vm.Move.TheVariants.{On, Push, Write};
 ghost use Rattle.machine.specs.Table.{held, cell_of, row as row_of};
 
@@ -12,11 +12,11 @@ use arith::integer::{self, chosen, subscript, turns};
 use arith::logical::{self, odd};
 use arith::relation::{Relation, compare, compare_logical};
 use arith::shift::Shift;
-use words::list::Bounded;
-use words::op::Op;
-use words::store::Store;
+use base::list::Bounded;
+use base::op::Op;
+use base::store::Store;
 
-// The operands of an instruction, its place, the stacked words, and the store.
+// A view has the operands of an instruction, its place, the stacked words, and the store.
 #[derive(Drop)]
 pub(crate) struct View<'a, 'b, 'c, S> {
     pub a: u16,
@@ -72,7 +72,7 @@ impl<S: Store> View<'_, '_, '_, S> {
         self.stack.peek(1).unwrap()
     }
 
-    // Whether the operands fit, and then whether so many words are there.
+    // Checks that the operands fit, and then that `words` words are stacked.
     #[inline(always)]
     fn holds(&self, fits: bool, words: u16) -> Result<(), Ending>
         ensures gives { result ≡ held fits words self.now.stack.now.len }
@@ -95,8 +95,7 @@ impl<S: Store> View<'_, '_, '_, S> {
         Ok(self.store.read(c)?)
     }
 
-    // The move that it makes, or the ending. No closures: with `?` an operation's call is its row, and a table of functions
-    // would be no plainer.
+    // The move that the instruction makes, or the ending.
     #[inline(always)]
     pub(crate) fn row(&self, op: Op) -> Result<Move, Ending>
         ensures { let v = self.now in

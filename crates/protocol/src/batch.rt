@@ -1,9 +1,16 @@
-// `spl batch`: one answer line to each request line; and `spl check`: a table of them.
+// `spl batch`: one answer line for each request line. `spl check`: the same for a table of requests with their
+// answers.
 use crate::sessions::Desk;
 use anyhow::anyhow;
-use code::compiler::Compiler;
+use base::code::{Code, Figures};
+use base::instr::Instr;
+use base::refusal::Refusal;
+use compiler::compiler::Compiler;
 use image::read::decode;
 use image::write::encode;
+use lexer::token::{Kind, Token};
+use lexer::whole::Tokens;
+use parser::workspace::Workspace;
 use report::compiled::{MOST_BYTES, MOST_INSTRUCTIONS};
 use report::fields::{Problem, hex, instrs, miscount, number, put_words, word, words};
 use report::names::put_text;
@@ -11,20 +18,15 @@ use report::source::load;
 use std::alloc::{AllocError, Global};
 use std::fmt::Write;
 use std::io::Read;
-use syntax::workspace::Workspace;
-use text::token::{Kind, Token};
-use text::whole::Tokens;
-use words::code::{Code, Figures};
-use words::instr::Instr;
-use words::refusal::Refusal;
 
+// Appends a refusal as the protocol writes it.
 pub(crate) fn refused(out: &mut String, fault: impl Into<Refusal>) -> Result<(), Problem> {
     let Refusal { place, number } = fault.into();
     write!(out, "no {number} {place}")?;
     Ok(())
 }
 
-// These two print forms of the protocol, which no type of its own has.
+// Appends bytes as two hexadecimal digits each.
 fn put_hex(out: &mut String, bytes: &[u8]) -> Result<(), Problem> {
     for b in bytes {
         write!(out, "{b:02x}")?;
@@ -32,6 +34,7 @@ fn put_hex(out: &mut String, bytes: &[u8]) -> Result<(), Problem> {
     Ok(())
 }
 
+// Appends instruction records in the form in which they are read.
 fn put_instrs(out: &mut String, code: &[Instr]) -> Result<(), Problem> {
     if code.is_empty() {
         out.push('-')?;
@@ -45,8 +48,8 @@ fn put_instrs(out: &mut String, code: &[Instr]) -> Result<(), Problem> {
     Ok(())
 }
 
-// A table of `n` entries: the first ones of a list that has grown to the longest that was asked for. What they hold does
-// not matter, since no answer shows an entry that was not written.
+// A table of `n` entries: the first of a list that grows to the longest that was asked for. What they hold does not
+// matter, since no answer shows an entry that was not written.
 fn lent(table: &mut Vec<Instr>, n: usize) -> Result<&mut [Instr], Problem> {
     if table.len() < n {
         table.resize(n, Instr::default())?;
@@ -54,13 +57,13 @@ fn lent(table: &mut Vec<Instr>, n: usize) -> Result<&mut [Instr], Problem> {
     Ok(&mut table.as_mut_slice()[..n])
 }
 
+// Appends the code in the front of a table.
 fn put_code(out: &mut String, figures: Figures, table: &[Instr]) -> Result<(), Problem> {
     write!(out, "ok {} {} ", figures.cells, figures.depth)?;
     put_instrs(out, table.get(..figures.count as usize).unwrap_or(table))
 }
 
-// A token as the batch protocol has it: place, kind and text. By hand: a form of the protocol, which the type of tokens does
-// not own.
+// Appends a token as the protocol writes it: place, kind and text.
 fn put_token(out: &mut String, t: &Token<'_>) -> Result<(), Problem> {
     match t {
         Token::Word(w, place) => {
@@ -82,7 +85,7 @@ fn put_token(out: &mut String, t: &Token<'_>) -> Result<(), Problem> {
     }
 }
 
-// Memory that serves line after line.
+/// The memory of all requests. It serves one line after another.
 #[derive(Drop)]
 pub struct Bench {
     heap: Global,
@@ -112,7 +115,7 @@ impl Bench {
         let [table, bytes] = fields else {
             return Err(miscount(fields.len(), 2));
         };
-        // a larger table is answered alike
+        // a larger table gives the same answer
         let room = number(table)?.min(MOST_INSTRUCTIONS);
         hex(bytes, &mut self.bytes)?;
         let table = lent(&mut self.table, room)?;
@@ -195,6 +198,7 @@ impl Bench {
         }
     }
 
+    // Answers a request line. Fails where it is no request.
     fn request(&mut self, line: &[u8], out: &mut String) -> Result<(), Problem> {
         let mut fields = Vec::new(self.heap);
         for field in line.split(|b| *b == b' ') {
@@ -212,7 +216,7 @@ impl Bench {
         }
     }
 
-    // What is answered `err` leaves nothing else of its line.
+    // Appends the answer line of a request. A line that fails is answered `err` and the reason, and nothing else.
     fn answer(&mut self, line: &[u8], out: &mut String) -> Result<(), Problem> {
         let mut text = String::new(self.heap);
         match self.request(line, &mut text) {
@@ -223,7 +227,8 @@ impl Bench {
         Ok(())
     }
 
-    // Whether a line `REQUEST -> ANSWER` of a table holds; a difference is printed, with the number of the line.
+    // Whether a line `REQUEST -> ANSWER` of a table has the right answer. If not, prints the line with its number
+    // and what was answered.
     fn holds(&mut self, rt: &HostRuntime, number: usize, line: &[u8]) -> anyhow::Result<bool> {
         let arrow = b" -> ";
         let Some(i) = line.windows(4).position(|w| w.starts_with(arrow)) else {
@@ -251,7 +256,8 @@ fn without_feed(line: &[u8]) -> &[u8] {
     line.strip_suffix(b"\n").unwrap_or(line)
 }
 
-// `spl check`: a table of requests with their answers; lines that begin with `#`, and empty ones, are passed over.
+/// Answers the requests of the table in a file and compares the answers with those there. Lines that begin with `#`
+/// and empty lines are passed over. Prints each difference and how many there are, and fails if there is one.
 pub fn check(rt: &HostRuntime, path: &str) -> anyhow::Result<()> {
     let input = load(rt, path)?;
     let mut bench = Bench::new(rt.alloc())?;
@@ -274,6 +280,8 @@ pub fn check(rt: &HostRuntime, path: &str) -> anyhow::Result<()> {
     Ok(())
 }
 
+/// Answers the requests on standard input, one line for each, until the input ends. Fails where standard input or
+/// output fails, and where there is too little memory for the input and the tables.
 pub fn batch(rt: &HostRuntime) -> anyhow::Result<()> {
     let heap = rt.alloc();
     let mut input = Vec::new(heap);

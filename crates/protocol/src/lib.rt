@@ -1,4 +1,4 @@
-// Requests and their answers, a line each: on standard input, and from a table.
+// Requests and their answers, one line each, from standard input or from a table.
 #![tactic(auto)]
 
 pub mod batch;

@@ -1,5 +1,12 @@
-// `session` and `single`: calls on the machine, over each of the three stores.
+// The requests `session` and `single`: calls on the machine, over each of the three stores.
 use crate::batch::refused;
+use base::code::Code;
+use base::instr::Instr;
+use base::refusal::Refusal;
+use base::store::Store;
+use base::store::bytes::Bytes;
+use base::store::joined::Joined;
+use base::store::lent::Words;
 use machine::call::{Answer, Call, Exchange};
 use machine::fault::{CallFault, SessionFault};
 use machine::lent::Lent;
@@ -9,18 +16,11 @@ use machine::vm::Vm;
 use report::fields::{Problem, hex, instrs, miscount, number, put_words, word, words};
 use std::alloc::Global;
 use std::fmt::Write;
-use words::code::Code;
-use words::instr::Instr;
-use words::refusal::Refusal;
-use words::store::Store;
-use words::store::bytes::Bytes;
-use words::store::joined::Joined;
-use words::store::lent::Words;
 
-// No depth is larger, so that longer stacks of zeros are answered alike.
+// No depth is larger, so a longer stack of zeros gives the same answers.
 const MOST_STACKED: usize = 65535;
 
-// What a request's store is made of.
+// The form of a request's store.
 #[derive(Clone, Copy, PartialEq, Eq, Debug)]
 enum Shape {
     Words,
@@ -28,15 +28,16 @@ enum Shape {
     Joined,
 }
 
+// What a request asks for.
 #[derive(Clone, Copy, PartialEq, Eq, Debug)]
 enum Task {
     // the calls, one after another
     Calls,
-    // with a limit of steps
+    // a single run with this limit of steps
     Single(u64),
 }
 
-// rN, lN or p
+// Reads a call: `rN`, `lN` or `p`.
 fn call(text: &[u8]) -> Result<Call, Problem> {
     match text {
         [b'r', limit @ ..] => Ok(Call::Resume(number(limit)? as u64)),
@@ -46,7 +47,7 @@ fn call(text: &[u8]) -> Result<Call, Problem> {
     }
 }
 
-// Calls joined by `;`, `-` for none; they take the place of those in `out`.
+// Reads calls joined by `;`, `-` for none, into `out` in place of those there.
 fn exchanges(text: &[u8], out: &mut Vec<Exchange>) -> Result<(), Problem> {
     out.clear();
     if let [b'-'] = text {
@@ -103,7 +104,7 @@ fn put_answers(out: &mut String, exchanges: &[Exchange]) -> Result<(), Problem> 
     Ok(())
 }
 
-// Does the task over one store. A refusal found before the first call is all that there is to answer.
+// Does the task over one store. A refusal that comes before the first call is the whole answer.
 fn work<S: Store>(
     task: Task,
     code: Code<'_>,
@@ -129,7 +130,7 @@ fn work<S: Store>(
     Ok(())
 }
 
-// What a request brings, each call with its answer. The memory serves line after line.
+/// The memory of the requests `session` and `single`. It serves one line after another.
 #[derive(Drop)]
 pub struct Desk {
     code: Vec<Instr>,
@@ -141,6 +142,7 @@ pub struct Desk {
 }
 
 impl Desk {
+    /// Answers a desk that holds nothing yet.
     pub fn new(heap: Global) -> Desk {
         Desk {
             code: Vec::new(heap),
@@ -152,7 +154,7 @@ impl Desk {
         }
     }
 
-    // Words; `b` and bytes; or words, `+`, `b` and bytes.
+    // Reads a store: words; `b` and bytes; or words, `+`, `b` and bytes.
     fn read_store(&mut self, text: &[u8]) -> Result<(), Problem> {
         if let [b'b', bytes @ ..] = text {
             self.shape = Shape::Bytes;
@@ -173,7 +175,7 @@ impl Desk {
         }
     }
 
-    // In the form in which it was written.
+    // Appends the store in the form in which it was written.
     fn put_store(&self, out: &mut String) -> Result<(), Problem> {
         match self.shape {
             Shape::Words => put_words(out, self.words.as_slice()),
@@ -214,7 +216,9 @@ impl Desk {
         }
     }
 
-    // session CELLS DEPTH STACKLEN STORE CALLS INSTRS
+    /// Appends the answer to `session CELLS DEPTH STACKLEN STORE CALLS INSTRS`, of which these are the fields: the
+    /// answers to the calls and the store afterwards, or the refusal of the start. Fails where the fields are
+    /// wrong, and where there is too little memory.
     pub fn session(&mut self, fields: &[&[u8]], out: &mut String) -> Result<(), Problem> {
         let [cells, depth, length, store, list, code] = fields else {
             return Err(miscount(fields.len(), 6));
@@ -237,7 +241,9 @@ impl Desk {
         }
     }
 
-    // single LIMIT CELLS DEPTH STACK STORE INSTRS
+    /// Appends the answer to `single LIMIT CELLS DEPTH STACK STORE INSTRS`, of which these are the fields: the
+    /// registers or the refusal, then the store and the stack words afterwards. Fails where the fields are wrong,
+    /// and where there is too little memory.
     pub fn single(&mut self, fields: &[&[u8]], out: &mut String) -> Result<(), Problem> {
         let [limit, cells, depth, stack, store, code] = fields else {
             return Err(miscount(fields.len(), 6));

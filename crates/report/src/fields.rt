@@ -1,20 +1,22 @@
 // The parts of a request: fields, numbers, hexadecimal bytes, instruction records.
+use base::instr::Instr;
 use std::alloc::{AllocError, AllocFailed};
 use std::fmt;
 use std::fmt::Write;
 use thiserror::Error;
-use words::instr::Instr;
 
-// Why a line is answered `err`.
+/// Why a request is answered `err`, or an option of a command is not taken.
 #[derive(Clone, Copy, Debug, Error)]
 pub enum Problem {
+    /// There is too little memory.
     #[error("want of memory")]
     Memory,
+    /// The text says what is wrong with the request or the option.
     #[error("{0}")]
     NotRequest(&'static str),
 }
 
-// By hand, as those below: the case holds no error, so that none can be derived.
+// By hand, as those below: the case holds no error, so none can be derived.
 impl From<AllocError> for Problem {
     fn from(_e: AllocError) -> Problem {
         Problem::Memory
@@ -27,14 +29,14 @@ impl<T: Drop> From<AllocFailed<T>> for Problem {
     }
 }
 
-// Writing to a text fails only for want of memory.
+// Writing to a text fails only if there is too little memory.
 impl From<fmt::Error> for Problem {
     fn from(_e: fmt::Error) -> Problem {
         Problem::Memory
     }
 }
 
-// Why fields are not as many as a request has.
+/// Answers why `found` fields are not a request of `wanted` fields. The two numbers differ.
 pub fn miscount(found: usize, wanted: usize) -> Problem {
     Problem::NotRequest(if found < wanted {
         "too few fields"
@@ -43,7 +45,8 @@ pub fn miscount(found: usize, wanted: usize) -> Problem {
     })
 }
 
-// A decimal number. A loop: its ends by `?` read plainer than in a fold.
+/// Reads a decimal number, which may have leading zeros. Fails where there is no digit, where another character
+/// stands, and where the number does not fit into a `usize`.
 pub fn number(text: &[u8]) -> Result<usize, Problem> {
     if text.is_empty() {
         return Err(Problem::NotRequest("a number is missing"));
@@ -61,12 +64,12 @@ pub fn number(text: &[u8]) -> Result<usize, Problem> {
     Ok(n)
 }
 
-// A number of sixteen bits.
+/// Reads a decimal number of at most 65,535. Fails as `number` does, and where the number is larger.
 pub fn word(text: &[u8]) -> Result<u16, Problem> {
     u16::try_from(number(text)?).map_err(|_| Problem::NotRequest("a word is over 65535"))
 }
 
-// Only small letters are digits.
+// The value of a hexadecimal digit. Only small letters are digits.
 fn nibble(b: u8) -> Result<u8, Problem> {
     match b {
         b'0'..=b'9' => Ok(b - b'0'),
@@ -75,7 +78,8 @@ fn nibble(b: u8) -> Result<u8, Problem> {
     }
 }
 
-// Two digits a byte, `-` for none; the bytes take the place of those in `out`.
+/// Reads bytes of two hexadecimal digits each, `-` for none, into `out` in place of those there. Fails where a
+/// digit is missing or is none, and where there is too little memory.
 pub fn hex(text: &[u8], out: &mut Vec<u8>) -> Result<(), Problem> {
     out.clear();
     if let [b'-'] = text {
@@ -94,7 +98,7 @@ pub fn hex(text: &[u8], out: &mut Vec<u8>) -> Result<(), Problem> {
     Ok(())
 }
 
-// An instruction record, `number,a,b`.
+// Reads an instruction record, `number,a,b`.
 fn instr(text: &[u8]) -> Result<Instr, Problem> {
     let mut parts = text.splitn(3, |b| *b == b',');
     match (parts.next(), parts.next(), parts.next()) {
@@ -107,7 +111,8 @@ fn instr(text: &[u8]) -> Result<Instr, Problem> {
     }
 }
 
-// Records joined by `;`, `-` for none; they take the place of those in `out`.
+/// Reads instruction records, `number,a,b` joined by `;`, `-` for none, into `out` in place of those there. Fails
+/// where a part is missing or is no word, and where there is too little memory.
 pub fn instrs(text: &[u8], out: &mut Vec<Instr>) -> Result<(), Problem> {
     out.clear();
     if let [b'-'] = text {
@@ -119,7 +124,8 @@ pub fn instrs(text: &[u8], out: &mut Vec<Instr>) -> Result<(), Problem> {
     Ok(())
 }
 
-// Words joined by `,`, `-` for none; they take the place of those in `out`.
+/// Reads words joined by `,`, `-` for none, into `out` in place of those there. Fails where a word is none, and
+/// where there is too little memory.
 pub fn words(text: &[u8], out: &mut Vec<u16>) -> Result<(), Problem> {
     out.clear();
     if let [b'-'] = text {
@@ -131,7 +137,7 @@ pub fn words(text: &[u8], out: &mut Vec<u16>) -> Result<(), Problem> {
     Ok(())
 }
 
-// In the form in which they are read.
+/// Appends words in the form in which `words` reads them. Fails only where there is too little memory.
 pub fn put_words(out: &mut String, list: &[u16]) -> Result<(), Problem> {
     if list.is_empty() {
         out.push('-')?;

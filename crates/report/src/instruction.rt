@@ -1,10 +1,11 @@
-// An instruction as a listing shows it.
+// How an instruction is printed.
+use base::instr::Instr;
+use base::op::Op;
 use std::alloc::Global;
 use std::fmt::Write;
-use words::instr::Instr;
-use words::op::Op;
 
-// With the operands that it names.
+/// Answers the name of an instruction with the operands that it names. Fails where no instruction has the number,
+/// and where there is too little memory.
 pub fn shown(heap: Global, i: Instr) -> anyhow::Result<String> {
     let op = Op::try_from(i.number)?;
     let mut text = String::new(heap);

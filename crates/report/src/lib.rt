@@ -1,5 +1,5 @@
-// What the commands of the program share: sources and places in them, refusals as they are told, a compiled source, the line of each
-// instruction, and the fields of a line.
+// What the commands of the program share: sources and places in them, printed refusals, compiled sources, the line
+// of each instruction, and the fields of a request.
 #![tactic(auto)]
 
 pub mod compiled;

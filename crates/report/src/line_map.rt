@@ -1,14 +1,15 @@
-// Which line of a source each instruction of its code comes from. The compiler does not tell: the entries of the syntax list
-// are gone over, each of which gives a known number of instructions, in order.
+// Which line of a source each instruction of its code comes from. The compiler does not answer that. Each entry of
+// the syntax list gives a known number of instructions, in the order of the list, so the instructions are counted
+// here.
 use crate::compiled::Made;
 use crate::source::Lines;
 use crate::tokens::place_of;
+use base::instr::Instr;
+use lexer::reserved::keyword;
+use lexer::token::{Keyword, Symbol, Token};
+use lexer::whole::Tokens;
+use parser::node::Node;
 use std::alloc::Global;
-use syntax::node::Node;
-use text::reserved::keyword;
-use text::token::{Keyword, Symbol, Token};
-use text::whole::Tokens;
-use words::instr::Instr;
 
 fn is_shift(word: &[u8]) -> bool {
     matches!(
@@ -21,8 +22,9 @@ fn is_truth(word: &[u8]) -> bool {
     matches!(keyword(word), Some(Keyword::True | Keyword::False))
 }
 
-// The place of the third of four tokens, if it is a number of an expression. Those of bounds and of fields have a colon on one
-// side, and before that of a shift stands its kind.
+// The place of the third of four tokens, if it is a number of an expression; TRUE and FALSE count as numbers. The
+// numbers of bounds and of fields have a colon on one side, and the number of a shift stands two tokens after the
+// word of its kind.
 fn constant(four: &[Token<'_>]) -> Option<usize> {
     match four {
         [_, Token::Symbol(Symbol::Colon, _), _, _] => None,
@@ -34,7 +36,8 @@ fn constant(four: &[Token<'_>]) -> Option<usize> {
     }
 }
 
-// Where the numbers of expressions stand, in written order, as their entries do, which have no place.
+// The places of the numbers in expressions, in written order. The entries of these numbers come in the same order
+// and have no place.
 fn constants(heap: Global, tokens: &[Token<'_>]) -> anyhow::Result<Vec<usize>> {
     let mut places = Vec::new(heap);
     for four in tokens.windows(4) {
@@ -70,7 +73,8 @@ fn standing(node: Node) -> Option<usize> {
     }
 }
 
-// How many instructions an entry gives, of which `first` is the first, if there is one. A CASE has its table behind it.
+// How many instructions an entry gives. The first of them, if there is one, is `first`: a CASE counts its table of
+// branches by it.
 fn given(node: Node, first: Option<&Instr>) -> usize {
     match node {
         Node::Simple(_, _, _)
@@ -92,8 +96,9 @@ fn given(node: Node, first: Option<&Instr>) -> usize {
     }
 }
 
-// The line of each instruction. An entry without a place, a number apart, has that of the last one before it; HALT has that of
-// the full stop.
+/// Answers the line of each instruction, counted from 1. An entry without a place, unless it is a number, has the
+/// line of the last place before it, and HALT has the line of the full stop. Fails only where there is too little
+/// memory.
 pub fn line_map(heap: Global, made: &Made, lines: &Lines<'_>) -> anyhow::Result<Vec<usize>> {
     let mut tokens = Tokens::new(heap)?;
     tokens.cut(made.source())?;

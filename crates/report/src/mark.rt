@@ -1,11 +1,12 @@
-// Why a source is refused: the sentence, the number and place, the line, and a mark under the column.
+// How a refused source is printed: the reason, the number and place, the line, and a mark under the column.
 use crate::source::Spot;
 use anyhow::anyhow;
+use base::refusal::Refusal;
 use std::alloc::Global;
 use std::fmt::Display;
-use words::refusal::Refusal;
 
-// The bytes up to a line feed as text: a carriage return as the blank that it is, what cannot be shown as a question mark.
+/// Answers the bytes before the first line feed as text. A carriage return is shown as a blank, every other byte
+/// that cannot be printed as a question mark.
 pub fn shown(heap: Global, bytes: &[u8]) -> anyhow::Result<String> {
     let mut text = String::new(heap);
     for b in bytes.iter().take_while(|b| **b != b'\n') {
@@ -18,7 +19,8 @@ pub fn shown(heap: Global, bytes: &[u8]) -> anyhow::Result<String> {
     Ok(text)
 }
 
-// A place at the length of the source is marked behind its last byte.
+/// Prints why a source is refused: number and place, the line, and a mark under the column. A place at the length
+/// of the source is marked behind the last byte. It always fails, so that the command ends with status 1.
 pub fn tell<E: Copy + Display + Into<Refusal>>(
     rt: &HostRuntime,
     path: &str,

@@ -1,8 +1,9 @@
 // Names as text, and the name that has a cell.
 use crate::fields::Problem;
-use checks::entry::NameEntry;
+use sema::entry::NameEntry;
 
-// The bytes of a token or a name, all of them letters, digits and signs: as text they would have to be checked first.
+/// Appends the bytes of a token or a name, each as one character. All of them are letters, digits and signs. Fails
+/// only where there is too little memory.
 pub fn put_text(out: &mut String, bytes: &[u8]) -> Result<(), Problem> {
     for b in bytes {
         out.push(*b as char)?;
@@ -10,7 +11,7 @@ pub fn put_text(out: &mut String, bytes: &[u8]) -> Result<(), Problem> {
     Ok(())
 }
 
-// The name that has a cell.
+/// Answers the name to which a cell belongs, or none.
 pub fn owner(names: &[NameEntry], cell: u16) -> Option<&NameEntry> {
     names.iter().find(|entry| {
         (cell as u32)

@@ -1,34 +1,38 @@
-// A source as its file holds it, and places in it: lines and columns.
+// The bytes of a source file, and the lines and columns of places in them.
 use anyhow::anyhow;
 use std::alloc::Global;
 use std::fs;
 
-// A place, its line, from 1, and where that line begins.
+/// A place in a source, and the line on which it stands.
 #[derive(Clone, Copy)]
 pub struct Spot {
+    /// The index of a byte; the length of the source is a place too.
     pub place: usize,
+    /// Counted from 1.
     pub line: usize,
+    // where that line begins
     start: usize,
 }
 
 impl Spot {
+    /// The place of the first byte of a source.
     pub const TOP: Spot = Spot {
         place: 0,
         line: 1,
         start: 0,
     };
 
-    // From 1.
+    /// Answers the column of the place in its line, counted in bytes from 1.
     pub fn column(self) -> usize {
         self.place.saturating_sub(self.start).saturating_add(1)
     }
 
-    // The source from the beginning of its line.
+    /// Answers the source from the beginning of the line on.
     pub fn rest_of(self, source: &[u8]) -> &[u8] {
         source.get(self.start..).unwrap_or(source)
     }
 
-    // Goes on to a later place, past the line feeds before it.
+    /// Answers the spot of a place that is not before this one. Only the bytes between the two are looked at.
     pub fn onward(self, source: &[u8], place: usize) -> Spot {
         let mut line = self.line;
         let mut start = self.start;
@@ -42,15 +46,16 @@ impl Spot {
     }
 }
 
-// The lines of a source, by number, from 1: for places that come in no order.
+/// Where each line of a source begins. It finds the line of any place, in whatever order places come.
 #[derive(Drop)]
 pub struct Lines<'a> {
     source: &'a [u8],
-    // where each begins
+    // where each line begins
     starts: Vec<usize>,
 }
 
 impl Lines<'_> {
+    /// Answers the lines of a source. Fails only where there is too little memory.
     pub fn of(heap: Global, source: &[u8]) -> anyhow::Result<Lines<'_>> {
         let mut starts = Vec::new(heap);
         starts.push(0)?;
@@ -62,21 +67,21 @@ impl Lines<'_> {
         Ok(Lines { source, starts })
     }
 
-    // How many there are; what follows a last line feed is none.
+    /// Answers how many lines there are. The end of the source after a last line feed is not one.
     pub fn count(&self) -> usize {
         self.starts
             .as_slice()
             .partition_point(|start| *start < self.source.len())
     }
 
-    // The line on which a place stands.
+    /// Answers the line, counted from 1, on which a place stands.
     pub fn at(&self, place: usize) -> usize {
         self.starts
             .as_slice()
             .partition_point(|start| *start <= place)
     }
 
-    // The source from the beginning of a line.
+    /// Answers the source from the beginning of a line on; lines are counted from 1.
     pub fn from(&self, line: usize) -> &[u8] {
         let before = line.saturating_sub(1);
         let start = self.starts.as_slice().get(before).copied().unwrap_or(0);
@@ -84,7 +89,7 @@ impl Lines<'_> {
     }
 }
 
-// The bytes of a file, or its name and that it cannot be read.
+/// Answers the bytes of a file. If it cannot be read, prints so and fails.
 pub fn load(rt: &HostRuntime, path: &str) -> anyhow::Result<Vec<u8>> {
     match fs::read(rt, path) {
         Ok(bytes) => Ok(bytes),

@@ -1,10 +1,15 @@
-// A routine to be run: a source that was compiled, or the code that an image holds.
+// A routine to be run: a compiled source, or the code of an image.
 use anyhow::anyhow;
 use arith::integer::value;
 use arith::stop::Stop;
-use checks::entry::{NameEntry, Sort};
+use base::code::{Code, Figures};
+use base::instr::Instr;
+use base::op::Op;
+use base::refusal::Refusal;
 use image::fault::ImageFault;
 use image::read::decode;
+use lexer::search::Named;
+use lexer::token::Kind;
 use machine::ending::Ending;
 use machine::vm::Vm;
 use report::compiled::{MOST_INSTRUCTIONS, Made, make};
@@ -12,24 +17,20 @@ use report::line_map::line_map;
 use report::mark;
 use report::names::{owner, put_text};
 use report::source::{Lines, load};
+use sema::entry::{NameEntry, Sort};
 use std::alloc::Global;
 use std::fmt::Write;
-use text::search::Named;
-use text::token::Kind;
-use words::code::{Code, Figures};
-use words::instr::Instr;
-use words::op::Op;
-use words::refusal::Refusal;
 
+/// The code of a source or of an image, with the names and lines of a source.
 #[derive(Drop)]
 pub struct Routine {
-    // where there is none, the figures and the table are those of an image
+    // the source; without one, the figures and the table are those of an image
     made: Option<Made>,
     figures: Figures,
     table: Vec<Instr>,
 }
 
-// The cell that a name has, as a source writes it.
+// Appends the cell of a name as a source writes it.
 fn put_cell(out: &mut String, entry: &NameEntry, cell: u16) -> anyhow::Result<()> {
     put_text(out, entry.name())?;
     if entry.sort == Sort::Array {
@@ -39,8 +40,8 @@ fn put_cell(out: &mut String, entry: &NameEntry, cell: u16) -> anyhow::Result<()
     Ok(())
 }
 
-// The first cell of the array that an instruction has a subscript of. CHK does not name it: STX does, the next one in the code,
-// since the value between them assigns nothing.
+// The first cell of the array whose subscript the first instruction checks. LDX names it. CHK does not, but the
+// next STX in the code does, since the value between the two assigns nothing.
 fn subscripted(code: &[Instr]) -> Option<u16> {
     let first = code.first()?;
     if let Ok(Op::Ldx) = Op::try_from(first.number) {
@@ -53,6 +54,7 @@ fn subscripted(code: &[Instr]) -> Option<u16> {
 }
 
 impl Routine {
+    /// Answers the code, with its cells and its depth.
     pub fn code(&self) -> Code<'_> {
         match &self.made {
             Some(made) => made.code(),
@@ -64,7 +66,7 @@ impl Routine {
         }
     }
 
-    // The source, if the routine is one.
+    /// Answers the bytes of the source, or none for an image.
     pub fn source(&self) -> Option<&[u8]> {
         match &self.made {
             Some(made) => Some(made.source()),
@@ -79,7 +81,8 @@ impl Routine {
         }
     }
 
-    // A cell by its name, where it has one.
+    /// Answers a cell as its source names it, or `cell` and its number where no name has it. Fails only where there
+    /// is too little memory.
     pub fn name(&self, heap: Global, cell: u16) -> anyhow::Result<String> {
         let mut text = String::new(heap);
         match owner(self.names(), cell) {
@@ -89,7 +92,7 @@ impl Routine {
         Ok(text)
     }
 
-    // The word of a cell as its type reads it.
+    /// Answers the value of a word in a cell: with a sign where the name is an INTEGER, else from 0 to 65,535.
     pub fn value(&self, cell: u16, word: u16) -> i32 {
         match owner(self.names(), cell) {
             Some(entry) if entry.kind == Kind::Integer => value(word),
@@ -97,7 +100,7 @@ impl Routine {
         }
     }
 
-    // The line of the instruction at which the run stands, and of a bad subscript the array.
+    // Prints the line of the instruction at which the run stands, and for a bad subscript the array.
     fn tell_line(&self, rt: &HostRuntime, made: &Made, vm: Vm) -> anyhow::Result<()> {
         let heap = rt.alloc();
         let place = vm.place as usize;
@@ -119,7 +122,8 @@ impl Routine {
         Ok(())
     }
 
-    // How a run stands that has ended, or that a limit has stopped.
+    /// Prints the registers after a run: the ending, or that the limit of steps came first, the line of the source,
+    /// and the numbers of steps, writes and stacked words.
     pub fn tell_end(&self, rt: &HostRuntime, vm: Vm) -> anyhow::Result<()> {
         let place = vm.place;
         match vm.ending {
@@ -150,7 +154,8 @@ fn refused(rt: &HostRuntime, path: &str, fault: ImageFault) -> anyhow::Result<Ro
     Err(anyhow!("the image is refused"))
 }
 
-// A file is an image if its name says so or if its bytes are one; any other is a source.
+/// Answers the routine in a file. A file is an image if its name ends in `.image` or if its bytes are an image;
+/// every other file is a source. If the file cannot be read, or image or source is refused, prints why and fails.
 pub fn open(rt: &HostRuntime, path: &str) -> anyhow::Result<Routine> {
     let bytes = load(rt, path)?;
     let mut table = vec![in rt.alloc(); Instr::default(); MOST_INSTRUCTIONS]?;

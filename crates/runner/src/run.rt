@@ -1,17 +1,18 @@
-// `spl run`: a source or an image on the machine, to its ending or to a limit.
+// `spl run`: runs a source or an image to its ending or to a limit of steps.
 use crate::routine::{Routine, open};
 use crate::settings::Settings;
+use base::store::lent::Words;
+use driver::trial::Trial;
 use machine::call::{Answer, Call, Exchange};
 use machine::lent::Lent;
 use machine::session::Session;
 use machine::vm::Vm;
 use std::alloc::Global;
-use trials::trial::Trial;
-use words::store::lent::Words;
 
+// The limit of steps if no option gives one.
 const LIMIT: u64 = 10000000;
 
-// What the calls answered.
+// What the calls answered: the registers, and the words of the cells.
 #[derive(Drop)]
 struct Outcome {
     vm: Vm,
@@ -29,7 +30,8 @@ fn exchanges(heap: Global, limit: u64, cells: u16) -> anyhow::Result<Vec<Exchang
     Ok(list)
 }
 
-// Makes the calls: those of a source by the one call that carries the whole promise, those of an image by a session of its own.
+// Makes the calls: for a source by `Trial::play`, whose contract is the promise, for an image by a session of its
+// code.
 fn play(
     heap: Global,
     routine: &Routine,
@@ -53,7 +55,7 @@ fn play(
     Ok(())
 }
 
-// The registers of the last answer that has some, and the words in order.
+// The registers of the last answer that has some, and the words of the answers in order.
 fn gathered(heap: Global, exchanges: &[Exchange]) -> anyhow::Result<Outcome> {
     let mut outcome = Outcome {
         vm: Vm {
@@ -74,7 +76,7 @@ fn gathered(heap: Global, exchanges: &[Exchange]) -> anyhow::Result<Outcome> {
     Ok(outcome)
 }
 
-// A run from these words, as its calls answer.
+// Runs the routine over a store of the words `before`, and gathers the answers to the calls.
 fn make(heap: Global, routine: &Routine, before: &[u16], limit: u64) -> anyhow::Result<Outcome> {
     let mut memory = Vec::from_slice(heap, before)?;
     let mut store = Words {
@@ -85,7 +87,7 @@ fn make(heap: Global, routine: &Routine, before: &[u16], limit: u64) -> anyhow::
     gathered(heap, exchanges.as_slice())
 }
 
-// A cell before and after, with a mark where its word is another.
+// Prints a cell before and after the run, with a mark if its word changed.
 fn row(
     rt: &HostRuntime,
     routine: &Routine,
@@ -113,6 +115,9 @@ fn table(rt: &HostRuntime, routine: &Routine, before: &[u16], after: &[u16]) -> 
     Ok(())
 }
 
+/// Runs the source or the image in a file, and prints how the run ends and its cells before and after. The options
+/// give the first words of the store and a limit of steps, 10,000,000 without one. Fails where the file cannot be
+/// read, its source or image is refused, or an option is wrong.
 pub fn run(rt: &HostRuntime, path: &str, options: &[String]) -> anyhow::Result<()> {
     let heap = rt.alloc();
     let settings = Settings::of(rt, options, LIMIT)?;

@@ -1,19 +1,22 @@
-// What `spl run` and `spl trace` are told beside the file: the first words of the store, and a limit of steps.
+// The options of `spl run` and `spl trace`: the first words of the store, and a limit of steps.
 use anyhow::anyhow;
+use base::refusal::Refusal;
 use machine::fault::SessionFault;
 use report::fields::{Problem, number, words};
 use std::alloc::Global;
-use words::refusal::Refusal;
 
+/// The words that a run begins with, and its limit.
 #[derive(Drop)]
 pub struct Settings {
-    // they fill the first cells; the others begin with 0
+    // the words of the first cells; the other cells begin with 0
     words: Vec<u16>,
+    /// The limit of steps.
     pub limit: u64,
 }
 
 impl Settings {
-    // Options come as a name and a value each; `limit` is that of a command without the option.
+    /// Reads options, each a name and a value. Without the option the limit is `limit`. If an option is unknown,
+    /// has no value or has a wrong one, prints so and fails.
     pub fn of(rt: &HostRuntime, options: &[String], limit: u64) -> anyhow::Result<Settings> {
         let mut settings = Settings {
             words: Vec::new(rt.alloc()),
@@ -45,7 +48,7 @@ impl Settings {
         }
     }
 
-    // No session makes 0 steps: that limit is refused as a session refuses it.
+    /// Passes unless the limit is 0 steps. Then it prints the refusal 33, as a session would answer it, and fails.
     pub fn judge(&self, rt: &HostRuntime, path: &str) -> anyhow::Result<()> {
         if self.limit > 0 {
             return Ok(());
@@ -56,7 +59,8 @@ impl Settings {
         Err(anyhow!("the run is refused"))
     }
 
-    // A store of so many cells.
+    /// Answers a store of `cells` cells with the words of the option in front. Fails where these are more than the
+    /// cells, and where there is too little memory.
     pub fn store(&self, heap: Global, cells: u16) -> anyhow::Result<Vec<u16>> {
         let mut list = Vec::from_slice(heap, self.words.as_slice())?;
         if list.len() > cells as usize {

@@ -1,6 +1,10 @@
-// `spl trace`: one line to each step of a source or an image.
+// `spl trace`: prints one line for each step of a source or an image.
 use crate::routine::{Routine, open};
 use crate::settings::Settings;
+use base::instr::Instr;
+use base::op::Op;
+use base::store::Store;
+use base::store::lent::Words;
 use machine::lent::Lent;
 use machine::session::Session;
 use machine::vm::Vm;
@@ -8,14 +12,11 @@ use report::fields::put_words;
 use report::instruction::shown;
 use std::alloc::Global;
 use std::fmt::Write;
-use words::instr::Instr;
-use words::op::Op;
-use words::store::Store;
-use words::store::lent::Words;
 
+// The limit of steps if no option gives one.
 const LIMIT: u64 = 200;
 
-// The cell that an instruction writes, on these stacked words. STX has its index under the value.
+// The cell that an instruction writes if these words are stacked, the top last. STX has its index under the value.
 fn target(i: Instr, stacked: &[u16]) -> Option<u16> {
     match (Op::try_from(i.number), stacked) {
         (Ok(Op::Stor | Op::Next), _) => Some(i.a),
@@ -24,7 +25,7 @@ fn target(i: Instr, stacked: &[u16]) -> Option<u16> {
     }
 }
 
-// A step before it is made: its number, the instruction, and the words stacked, the top last.
+// Appends a step that is not made yet: its number, its index, the instruction, and the words stacked, the top last.
 fn put_step(
     out: &mut String,
     heap: Global,
@@ -45,7 +46,7 @@ fn put_step(
     Ok(())
 }
 
-// The step after it was made: the cell that it wrote.
+// Appends the cell that a step wrote, with its new word.
 fn put_write(
     out: &mut String,
     heap: Global,
@@ -81,7 +82,7 @@ fn step<S: Store>(
     Ok(vm)
 }
 
-// Makes the steps over a store, and answers how the run stands then.
+// Makes at most `limit` steps over a store, and answers the registers after the last.
 fn steps<S: Store>(
     rt: &HostRuntime,
     routine: &Routine,
@@ -105,6 +106,9 @@ fn steps<S: Store>(
     Ok(session.report())
 }
 
+/// Runs the source or the image in a file, and prints each step and how the run ends. The options give the first
+/// words of the store and a limit of steps, 200 without one. Fails where the file cannot be read, its source or
+/// image is refused, or an option is wrong.
 pub fn trace(rt: &HostRuntime, path: &str, options: &[String]) -> anyhow::Result<()> {
     let heap = rt.alloc();
     let settings = Settings::of(rt, options, LIMIT)?;

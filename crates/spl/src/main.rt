@@ -1,4 +1,4 @@
-// spl: the toolchain's program. What matters is in the libraries; here files and lines become calls, and answers text.
+// The program `spl`. It turns command words into calls of the libraries.
 #![tactic(auto)]
 
 use anyhow::anyhow;
@@ -36,7 +36,7 @@ fn usage(rt: &HostRuntime) -> anyhow::Result<()> {
     Ok(())
 }
 
-// One command with its arguments.
+// Makes one command with its arguments.
 fn command(rt: &HostRuntime, words: &[String]) -> anyhow::Result<()> {
     match words {
         [] => usage(rt),
@@ -63,7 +63,7 @@ fn command(rt: &HostRuntime, words: &[String]) -> anyhow::Result<()> {
     }
 }
 
-// Commands that `then` keeps apart are made one after another, up to the first that fails.
+// Makes the commands, which `then` keeps apart, one after another, up to the first that fails.
 fn commands(rt: &HostRuntime, heap: Global) -> anyhow::Result<()> {
     let mut words = Vec::new(heap);
     for word in env::args(rt)?.skip(1) {

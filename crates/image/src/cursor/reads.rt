@@ -1,4 +1,4 @@
-// A cursor goes over bytes and numbers.
+// The calls of a cursor, which read bytes and numbers.
 ghost use Rattle.std.specs.Prelude.{◌≡◌, ◌-◌, true, length};
 ghost use Rattle.image.specs.Cursors.{ByteTaken, Took, rest_of};
 ghost use Rattle.image.specs.Groups.{number, zeros_first};
@@ -7,6 +7,7 @@ use crate::cursor::Cursor;
 use crate::fault::ImageFault;
 
 impl<'a> Cursor<'a> {
+    // The index of the next byte.
     pub(crate) fn place(&self) -> usize
         ensures { result ≡ self.now.end - length (rest_of self.now) }
     {
@@ -27,7 +28,7 @@ impl<'a> Cursor<'a> {
         self.rest.first() == Some(&128)
     }
 
-    // The number at the front.
+    // Reads the number at the front.
     pub(crate) fn number(&mut self) -> Result<u16, ImageFault>
         ensures { Took (number self.old.end (rest_of self.old)) self.old self.new result }
     {

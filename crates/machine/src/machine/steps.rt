@@ -7,9 +7,10 @@ use super::Machine;
 use crate::act::act;
 use crate::ending::Ending;
 use crate::vm::{Move, Vm};
-use words::store::Store;
+use base::store::Store;
 
 impl<S: Store> Machine<'_, '_, '_, '_, S> {
+    // The registers as they are now.
     pub(crate) fn registers(&self) -> Vm
         ensures { result ≡ registers_of self.now }
     {
@@ -22,7 +23,7 @@ impl<S: Store> Machine<'_, '_, '_, '_, S> {
         }
     }
 
-    // Makes a move. One that ends the run changes nothing.
+    // Makes a move. A move that ends the run changes nothing.
     #[inline(always)]
     fn make(&mut self, m: Move) -> Result<(), Ending>
         requires counts { self.old.writes < self.old.steps }
@@ -77,7 +78,7 @@ impl<S: Store> Machine<'_, '_, '_, '_, S> {
         act(i, place, self.stack, self.store)
     }
 
-    // Makes that move.
+    // Makes the move of the instruction at the place.
     #[inline(always)]
     fn advance(&mut self) -> Result<(), Ending>
         requires { self.old.writes < self.old.steps }
@@ -104,7 +105,7 @@ impl<S: Store> Machine<'_, '_, '_, '_, S> {
         }
     }
 
-    // So many steps, fewer only if the run ends.
+    // Makes `steps` steps, or fewer if the run ends.
     #[inline(always)]
     pub(crate) fn run(&mut self, steps: u64)
         requires { self.old.steps + steps ≤ 4000000000 }

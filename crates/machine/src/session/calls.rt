@@ -1,7 +1,7 @@
 // The calls of a session.
 ghost use Rattle.std.specs.Prelude.{◌≡◌};
-ghost use Rattle.words.specs.Refusals.{told};
-ghost use Rattle.words.specs.Stores.{read_of, refusal_of as store_refusal};
+ghost use Rattle.base.specs.Refusals.{told};
+ghost use Rattle.base.specs.Stores.{read_of, refusal_of as store_refusal};
 ghost use Rattle.machine.specs.Faults.{refusal_of};
 ghost use Rattle.machine.specs.Lent.{fit, state_of, resume_of, resume_leaves, Lasts};
 ghost use Rattle.machine.specs.Sessions.{registers, Starts};
@@ -11,11 +11,11 @@ use crate::lent::Lent;
 use crate::machine::{LIMIT, Machine};
 use crate::session::Session;
 use crate::vm::Vm;
-use words::list::Bounded;
-use words::store::{Store, StoreFault};
+use base::list::Bounded;
+use base::store::{Store, StoreFault};
 
 impl<S: Store> Lent<'_, '_, '_, S> {
-    // Whether it will do for a code of so many cells and such a depth.
+    // Checks that what is lent is enough for a code with these cells and this depth.
     fn fit(&self, cells: u16, depth: u16) -> Result<(), SessionFault>
         ensures { told refusal_of result ≡ fit S.Store.words cells depth self.now }
     {
@@ -33,7 +33,9 @@ impl<S: Store> Lent<'_, '_, '_, S> {
 }
 
 impl Session {
-    // A session at instruction 0 with an empty stack.
+    /// A session at instruction 0 with an empty stack, for a code that uses `cells` cells of the store and needs `depth`
+    /// words on the stack. Refuses with 30 where the code has no instruction or over 16,383, with 31 where the stack has
+    /// fewer words than the depth, and with 32 where the store has fewer cells. Changes nothing that is lent.
     pub fn start<S: Store>(
         cells: u16,
         depth: u16,
@@ -55,21 +57,23 @@ impl Session {
         })
     }
 
-    // Instruction, height, steps, cell writes, and the ending once there is one.
+    /// The registers as the last call left them.
     pub fn report(&self) -> Vm
         ensures { result ≡ self.now.vm }
     {
         self.vm
     }
 
-    // The word of a cell of the store.
+    /// The word of a cell of the store. Refuses with 36, at the cell, where the store has no such cell.
     pub fn look<S: Store>(&self, store: &S, cell: u16) -> Result<u16, StoreFault>
         ensures { told store_refusal result ≡ read_of (S.Store.words store.now) cell }
     {
         store.read(cell)
     }
 
-    // Makes `limit` steps, fewer only if the run ends or 4,000,000,000 in all are reached.
+    /// Makes `limit` steps, fewer only if the run ends or 4,000,000,000 in all are reached, and answers the registers.
+    /// Refuses with 30, 31 and 32 as `start` does, then with 33 where the limit is 0, with 34 where the run has ended, and
+    /// with 35 where all 4,000,000,000 steps were made. A refusal changes nothing.
     pub fn resume<S: Store>(
         &mut self,
         lent: &mut Lent<'_, '_, '_, S>,

@@ -1,8 +1,8 @@
 use Rattle.std.proofs.Common.{◌≡◌, ◌+◌, ◌-◌, ◌<◌, length, drop, sym, ap, ◌∙◌, arith}
 use Rattle.std.proofs.lemmas.List.{length-set, drop-set-lt}
 use Rattle.std.proofs.lemmas.Result.{err_from_is_err_and}
-use Rattle.words.specs.Lists.{held, room}
-use Rattle.words.proofs.Pushes.{pushed}
+use Rattle.base.specs.Lists.{held, room}
+use Rattle.base.proofs.Pushes.{pushed}
 use Rattle.image.specs.Cursors.{rest_of}
 use Rattle.image.specs.Reading.{entries_at}
 use Rattle.image.proofs.Bytes.{drop_further}

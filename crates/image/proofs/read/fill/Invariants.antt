@@ -1,5 +1,5 @@
 use Rattle.std.proofs.Common.{◌≡◌, ◌-◌, [], length, drop}
-use Rattle.words.specs.Lists.{held, room}
+use Rattle.base.specs.Lists.{held, room}
 use Rattle.image.specs.Cursors.{rest_of}
 use Rattle.image.specs.Reading.{entries_at}
 use Rattle.image.proofs.read.fill.Given as goal

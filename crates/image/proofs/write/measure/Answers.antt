@@ -1,6 +1,6 @@
 use Rattle.std.proofs.Common.{◌≡◌, List, length, get_or, take, ap, ◌∙◌, arith}
 use Rattle.std.proofs.lemmas.List.{length-append, take_all}
-use Rattle.words.specs.declared.instr.Instr.{Instr}
+use Rattle.base.specs.declared.instr.Instr.{Instr}
 use Rattle.image.specs.Codes.{body_bytes, entry_bytes}
 use Rattle.image.proofs.Bodies.{none, body_more, good_size, bad_size, judged_more, judged_bad, judged_end, measured_bad, measured_good}
 use Rattle.image.proofs.write.measure.Goals as goal

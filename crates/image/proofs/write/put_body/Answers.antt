@@ -1,6 +1,6 @@
 use Rattle.std.proofs.Common.{ℕ, ◌+◌, List, length, get_or, take, sym, ap, subst, arith}
 use Rattle.std.proofs.lemmas.List.{length-append, take_all}
-use Rattle.words.specs.declared.instr.Instr.{Instr}
+use Rattle.base.specs.declared.instr.Instr.{Instr}
 use Rattle.image.specs.Codes.{body_bytes, entry_bytes}
 use Rattle.image.specs.Writing.{Appended}
 use Rattle.image.proofs.Appends.{appended_then}

@@ -1,5 +1,5 @@
 use Rattle.std.proofs.Common.{sym, ap, ◌∙◌}
-use Rattle.words.specs.Refusals.{refuse}
+use Rattle.base.specs.Refusals.{refuse}
 use Rattle.image.specs.Cursors.{rest_of}
 use Rattle.image.specs.Groups.{more}
 use Rattle.image.proofs.Numbers.{zeros, ends_large, ends_last, ends_cut, more_on}

@@ -1,5 +1,5 @@
 use Rattle.std.proofs.Common.{◌≡◌, ◌-◌, List, []}
-use Rattle.words.specs.declared.instr.Instr.{Instr}
+use Rattle.base.specs.declared.instr.Instr.{Instr}
 use Rattle.image.specs.Cursors.{rest_of}
 use Rattle.image.specs.Reading.{entries_at}
 use Rattle.image.proofs.cursor.Cursor.walk.Given as goal

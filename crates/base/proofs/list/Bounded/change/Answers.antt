@@ -1,0 +1,6 @@
+use Rattle.std.proofs.Common.{rules}
+use lib.Seq.{take-set-lt}
+use Rattle.base.proofs.list.Bounded.change.Goals as goal
+
+pub returns : goal.returns
+returns g c = search (rules, take-set-lt)

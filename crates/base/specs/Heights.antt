@@ -1,0 +1,24 @@
+-- The words stacked after an instruction, by what it takes and leaves.
+use Rattle.std.specs.Prelude.{ℕ, zero, suc, Some, None, Option, slice_get}
+use Rattle.base.specs.declared.instr.Instr.{Instr}
+use Rattle.base.specs.declared.op.Op.{Op}
+use Rattle.base.specs.Ops.{ops, taken_by, left_by}
+
+-- k up, and k down as far as 0
+abbrev pub up : ℕ → ℕ → ℕ
+up zero h = h
+up (suc k) h = suc (up k h)
+
+abbrev pub down : ℕ → ℕ → ℕ
+down zero h = h
+down (suc k) zero = zero
+down (suc k) (suc h) = down k h
+
+-- a number that no instruction has changes nothing
+abbrev pub height_by : Option Op → (a h : ℕ) → ℕ
+height_by (Some o) a h = up (left_by o) (down (taken_by o a) h)
+height_by None a h = h
+
+-- the words stacked after an instruction, from h before it
+abbrev pub height : Instr → ℕ → ℕ
+height i h = height_by (slice_get ops i.number) i.a h

@@ -1,9 +1,0 @@
-use Rattle.std.proofs.Common.{◌+◌, leb, ap, ◌∙◌}
-use Rattle.checks.specs.Faults.{unless}
-use Rattle.checks.specs.Tables.{Row}
-use Rattle.checks.specs.Sizes.{cells_at}
-use Rattle.checks.proofs.table.NameTable.cells_fault.Goals as goal
-
-pub returns : goal.returns
-unfolding cells_at
-returns c = c.unless.ensures ∙ ap (λ (r : Row). unless (leb (r.cell + r.cells) 4096) 13 c.args.d.place) c.entry-e.ensures

@@ -1,0 +1,41 @@
+// The laws by which the machine keeps step with the source.
+ghost use Rattle.correctness.specs.Agreement.{Agreement};
+ghost use Rattle.correctness.specs.Examples.{Examples};
+ghost use Rattle.correctness.specs.Heights.{Heights};
+ghost use Rattle.correctness.specs.Named.{Celled, Ruled};
+ghost use Rattle.correctness.specs.Sessions.{Kept};
+
+/// States what holds of the code of a source that keeps the rules, over a store with at least the source's cells
+/// and a stack of at least its depth: the machine makes the source's writes in their order, ends only as the source
+/// ends, and ends whenever the source does.
+pub fn agreement_stands()
+    ensures { Agreement }
+{}
+
+/// States that after every list of calls on the code of a source that keeps the rules, the cells, writes, ending,
+/// height and steps are those of the source.
+pub fn sessions_keep_step()
+    ensures { Kept }
+{}
+
+/// States that every step that does not end the run changes the number of words stacked as the table of pushes and
+/// pops says. The depth of a code is counted by the same table.
+pub fn heights_stand()
+    ensures { Heights }
+{}
+
+/// States that a source that keeps the rules names its own cells only, so that it writes no others.
+pub fn cells_are_within()
+    ensures { Ruled }
+{}
+
+/// States that the code of a source that keeps the rules names the source's cells only.
+pub fn cells_stand()
+    ensures { Celled }
+{}
+
+/// States the runs of two sources on the machine, step by step and in a session, and what the theorem says of one
+/// of them.
+pub fn examples_stand()
+    ensures { Examples }
+{}

@@ -1,6 +1,0 @@
-use Rattle.std.proofs.Common.{◌≡◌}
-use Rattle.emit.specs.Items.{without}
-use Rattle.emit.proofs.backward.Backward.disarm.Given as goal
-
-abbrev pub invariant-loop : goal.invariant-loop
-invariant-loop l = (l.self.todo ≡ without l.counter l.initial.self.todo) × (l.self.code ≡ l.initial.self.code)

@@ -1,0 +1,48 @@
+// How a workspace is made, used and looked into.
+ghost use Rattle.std.specs.Prelude.{◌≡◌, ◌<◌, [], IfOk, length};
+ghost use Rattle.parser.specs.declared.node.TheConstants.{ROOM};
+ghost use Rattle.parser.specs.Entries.{entries};
+ghost use Rattle.parser.specs.Works.{list_of, Read};
+
+use crate::fault::GrammarFault;
+use crate::node::{Node, Nodes};
+use crate::reader::whole;
+use crate::workspace::Workspace;
+use lexer::whole::check;
+use std::alloc::{AllocError, Global};
+
+impl Workspace {
+    /// Reserves all memory. This is the only call that asks for any, and it fails where the heap has too little.
+    #[tactic(auto, unfolding(crate::specs::Entries::entries))]
+    pub fn new(heap: Global) -> Result<Workspace, AllocError>
+        ensures { IfOk result (λ w. list_of w ≡ []) }
+    {
+        let nodes = Nodes::new(heap)?;
+        Ok(Workspace { nodes })
+    }
+
+    /// The syntax list of the source that was read last; empty where it was refused.
+    pub fn nodes(&self) -> &[Node]
+        ensures list { entries result.now ≡ list_of self.now }
+        ensures few { length result.now < ROOM }
+    {
+        self.nodes.as_slice()
+    }
+
+    /// Reads a source; its list takes the place of the last one. Refuses with 1 to 4 where the text is refused; with 5 at
+    /// the first token with which no program begins, or at the length of a source that ends too early; with 6 at the token
+    /// that opens level 33. After a refusal the list is empty.
+    pub fn read(&mut self, source: &[u8]) -> Result<(), GrammarFault>
+        ensures { Read source.now self.new result }
+    {
+        self.nodes.clear();
+        check(source)?;
+        match whole(source, &mut self.nodes) {
+            Ok(()) => Ok(()),
+            Err(e) => {
+                self.nodes.clear();
+                Err(e)
+            }
+        }
+    }
+}

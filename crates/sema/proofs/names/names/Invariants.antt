@@ -1,0 +1,13 @@
+use Rattle.std.proofs.Common.{◌≡◌, drop}
+use Rattle.std.specs.Option.{option_map}
+use Rattle.parser.specs.Entries.{entries}
+use Rattle.sema.specs.Faults.{refusal_of, least_from, least}
+use Rattle.sema.specs.Tables.{empty}
+use Rattle.sema.specs.Names.{name_faults, table_from}
+use Rattle.sema.specs.Tabled.{table_as}
+use Rattle.sema.proofs.names.names.Given as goal
+
+abbrev pub invariant-loop-n : goal.invariant-loop-n
+invariant-loop-n l =
+    (least_from (option_map refusal_of l.best) (name_faults (table_as l.table) (entries (drop l.n-index l.nodes))) ≡ least (name_faults empty (entries l.nodes)))
+    × (table_from (table_as l.table) (entries (drop l.n-index l.nodes)) ≡ table_from empty (entries l.nodes))

@@ -1,5 +1,0 @@
-use Rattle.syntax.proofs.Puts.{entries_push}
-use Rattle.syntax.proofs.reader.tokens.put.Goals as goal
-
-pub returns-clause-items : goal.returns-clause-items
-returns-clause-items c = entries_push _ _ _ (c.push.ensures.items c.requires)

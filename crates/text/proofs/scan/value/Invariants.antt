@@ -1,6 +1,0 @@
-use Rattle.std.proofs.Common.{◌≡◌, drop}
-use Rattle.text.specs.Lexemes.{value_of, base_of}
-use Rattle.text.proofs.scan.value.Given as goal
-
-abbrev pub invariant-loop-d : goal.invariant-loop-d
-invariant-loop-d l = value_of (base_of l.kind) 0 l.digits ≡ value_of (base_of l.kind) l.n (drop l.d-index l.digits)

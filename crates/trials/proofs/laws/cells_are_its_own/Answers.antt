@@ -1,5 +1,0 @@
-use Rattle.trials.proofs.Cells.{own_cells}
-use Rattle.trials.proofs.laws.cells_are_its_own.Goals as goal
-
-pub returns : goal.returns
-returns c = own_cells

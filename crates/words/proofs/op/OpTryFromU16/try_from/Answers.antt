@@ -1,7 +1,0 @@
-use Rattle.std.proofs.Common.{refl, arith}
-use Rattle.std.proofs.lemmas.Option.{slice_get_past}
-use Rattle.words.specs.Ops.{ops}
-use Rattle.words.proofs.op.OpTryFromU16.try_from.Goals as goal
-
-pub returns-in_default : goal.returns-in_default
-returns-in_default c = (refl, slice_get_past ops c.args.number (omega arith))
