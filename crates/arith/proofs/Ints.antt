@@ -6,7 +6,7 @@ use Rattle.std.proofs.lemmas.Bool.{lt-ltb, le-ltb, ltb-true, ltb-false, true≢f
 use Rattle.std.proofs.lemmas.Bool.Decides.{nat_tests}
 use Rattle.std.proofs.lemmas.Nat.{mul-le}
 use Rattle.arith.specs.Stops.{stop}
-use Rattle.arith.specs.Integers.{int, fitted, Small}
+use Rattle.arith.specs.Integers.{int, integer_word, Small}
 
 pub int_low : (w : ℕ) → w < 32768 → to_z w32 w ≡ int w
 unfolding int
@@ -52,23 +52,23 @@ over f a b x y p q g h k = rw (to_z-of_z w32 a g, to_z-of_z w32 b h, to_z-of_z w
 pub lt_z_pos : (a b : ℕ) → lt_z (pos a) (pos b) ≡ true → a < b
 lt_z_pos a b h = ltb-true a b h
 
-pub fit_high : (v : ℤ) → lt_z (pos 32767) v ≡ true → stop 1 ≡ fitted v
-unfolding fitted
+pub fit_high : (v : ℤ) → lt_z (pos 32767) v ≡ true → stop 1 ≡ integer_word v
+unfolding integer_word
 fit_high (pos n) h = rw (le-ltb n 32768 (omega (arith, ltb-true 32767 n h)))
 fit_high (negsuc n) h = absurd (false≢true h)
 
-pub fit_low : (v : ℤ) → lt_z v (negsuc 32767) ≡ true → stop 1 ≡ fitted v
-unfolding fitted
+pub fit_low : (v : ℤ) → lt_z v (negsuc 32767) ≡ true → stop 1 ≡ integer_word v
+unfolding integer_word
 fit_low (pos n) h = absurd (false≢true h)
 fit_low (negsuc n) h = rw (le-ltb n 32768 (omega (arith, ltb-true 32767 n h)))
 
-pub fit_pos : (v : ℤ) → lt_z (pos 32767) v ≡ false → lt_z v (pos 0) ≡ false → Ok (nat_abs v) ≡ fitted v
-unfolding fitted
+pub fit_pos : (v : ℤ) → lt_z (pos 32767) v ≡ false → lt_z v (pos 0) ≡ false → Ok (nat_abs v) ≡ integer_word v
+unfolding integer_word
 fit_pos (pos n) h k = rw (lt-ltb n 32768 (omega (arith, ltb-false 32767 n h)))
 fit_pos (negsuc n) h k = absurd (true≢false k)
 
-pub fit_neg : (v : ℤ) → lt_z v (negsuc 32767) ≡ false → lt_z v (pos 0) ≡ true → Ok (nat_abs (to_z w32 (of_z w32 (v +ℤ pos 65536)))) ≡ fitted v
-unfolding fitted
+pub fit_neg : (v : ℤ) → lt_z v (negsuc 32767) ≡ false → lt_z v (pos 0) ≡ true → Ok (nat_abs (to_z w32 (of_z w32 (v +ℤ pos 65536)))) ≡ integer_word v
+unfolding integer_word
 fit_neg (pos n) h k = absurd (let z = ltb-true n 0 k in omega arith)
 fit_neg (negsuc n) h k =
     let l : n < 32768 = omega (arith, ltb-false 32767 n h) in

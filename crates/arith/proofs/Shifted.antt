@@ -5,7 +5,7 @@ use Rattle.std.proofs.lemmas.Nat.{pow-add, shl-shr, shr_high, mod_low, shr-shr, 
 use Rattle.std.proofs.lemmas.Bool.{lt-ltb, le-ltb, cases_lt}
 use Rattle.arith.specs.declared.shift.Kind.TheVariants.{Lsl, Lsr, Asr, Csl, Csr}
 use Rattle.arith.specs.Bits.{bit}
-use Rattle.arith.specs.Shifts.{shifted}
+use Rattle.arith.specs.Shifts.{shift_of}
 use Rattle.arith.proofs.Bitwise.{bit_under, low_bits, rest_bits}
 use Rattle.arith.proofs.Rounds.{left_part, round_fits}
 
@@ -26,12 +26,12 @@ left_fill b k x h l =
     let e : x * 2 ^ b ≡ x * 2 ^ m * 2 * 2 ^ j = ap (λ (n : ℕ). x * n) g ∙ sym (mul_assoc x (2 ^ m * 2) (2 ^ j)) ∙ ap (λ (n : ℕ). n * 2 ^ j) (sym (mul_assoc x (2 ^ m) 2)) in
     ap (λ (n : ℕ). n / 2 ^ j % 2) e ∙ ap (λ (n : ℕ). n % 2) (shl-shr (x * 2 ^ m * 2) j) ∙ omega arith
 
-pub lsl_bits : (b k x : ℕ) → k + b < 16 → bit k (shifted Lsl b x) ≡ bit (k + b) x
-unfolding shifted
+pub lsl_bits : (b k x : ℕ) → k + b < 16 → bit k (shift_of Lsl b x) ≡ bit (k + b) x
+unfolding shift_of
 lsl_bits b k x h = low_bits k (x * 2 ^ b) (omega arith) ∙ left_bits b k x h
 
-pub lsl_fill : (b k x : ℕ) → k < 16 → 16 ≤ k + b → bit k (shifted Lsl b x) ≡ 0
-unfolding shifted
+pub lsl_fill : (b k x : ℕ) → k < 16 → 16 ≤ k + b → bit k (shift_of Lsl b x) ≡ 0
+unfolding shift_of
 lsl_fill b k x h l = low_bits k (x * 2 ^ b) h ∙ left_fill b k x h l
 
 -- right
@@ -48,28 +48,28 @@ right_fill b k x l h t =
     let z : x / 65536 ≡ 0 = omega arith in
     ap (λ (n : ℕ). n % 2) (shr-shr x b (15 - k) ∙ ap (λ (n : ℕ). x / 2 ^ n) f ∙ sym (shr-shr x 16 i) ∙ ap (λ (n : ℕ). n / 2 ^ i) z ∙ zero-div (2 ^ i))
 
-pub lsr_bits : (b k x : ℕ) → b ≤ k → k < 16 → bit k (shifted Lsr b x) ≡ bit (k - b) x
-unfolding shifted
+pub lsr_bits : (b k x : ℕ) → b ≤ k → k < 16 → bit k (shift_of Lsr b x) ≡ bit (k - b) x
+unfolding shift_of
 lsr_bits b k x l h = right_bits b k x l h
 
-pub lsr_fill : (b k x : ℕ) → k < b → k < 16 → x < 65536 → bit k (shifted Lsr b x) ≡ 0
-unfolding shifted
+pub lsr_fill : (b k x : ℕ) → k < b → k < 16 → x < 65536 → bit k (shift_of Lsr b x) ≡ 0
+unfolding shift_of
 lsr_fill b k x l h t = right_fill b k x l h t
 
 -- right, with bit 0 repeated
 
-asr_low : (b x : ℕ) → x < 32768 → shifted Asr b x ≡ x / 2 ^ b
-unfolding shifted
+asr_low : (b x : ℕ) → x < 32768 → shift_of Asr b x ≡ x / 2 ^ b
+unfolding shift_of
 asr_low b x h = rw (lt-ltb x 32768 h)
 
-asr_high : (b x : ℕ) → 32768 ≤ x → shifted Asr b x ≡ 65535 - (65535 - x) / 2 ^ b
-unfolding shifted
+asr_high : (b x : ℕ) → 32768 ≤ x → shift_of Asr b x ≡ 65535 - (65535 - x) / 2 ^ b
+unfolding shift_of
 asr_high b x h = rw (le-ltb x 32768 h)
 
 right_small : (b y : ℕ) → y < 65536 → y / 2 ^ b < 65536
 right_small b y h = omega (arith, shr_le y b)
 
-pub asr_bits : (b k x : ℕ) → b ≤ k → k < 16 → x < 65536 → bit k (shifted Asr b x) ≡ bit (k - b) x
+pub asr_bits : (b k x : ℕ) → b ≤ k → k < 16 → x < 65536 → bit k (shift_of Asr b x) ≡ bit (k - b) x
 asr_bits b k x l h t =
     ⊎_elim
     (λ p. ap (bit k) (asr_low b x p) ∙ right_bits b k x l h)
@@ -82,7 +82,7 @@ asr_bits b k x l h t =
     ap (bit k) (asr_high b x p) ∙ omega (arith, r, q, d, right_bits b k y l h))
     (cases_lt x 32768)
 
-pub asr_repeat : (b k x : ℕ) → k < b → k < 16 → x < 65536 → bit k (shifted Asr b x) ≡ bit 0 x
+pub asr_repeat : (b k x : ℕ) → k < b → k < 16 → x < 65536 → bit k (shift_of Asr b x) ≡ bit 0 x
 asr_repeat b k x l h t =
     ⊎_elim
     (λ p. ap (bit k) (asr_low b x p) ∙ right_fill b k x l h t ∙ omega arith)
@@ -97,8 +97,8 @@ asr_repeat b k x l h t =
 -- round
 
 -- what goes round left by b: the lowest 16 - b bits, then the highest b
-csl_parts : (b x : ℕ) → b ≤ 15 → x < 65536 → shifted Csl b x ≡ x % 2 ^ (16 - b) * 2 ^ b + x / 2 ^ (16 - b)
-unfolding shifted
+csl_parts : (b x : ℕ) → b ≤ 15 → x < 65536 → shift_of Csl b x ≡ x % 2 ^ (16 - b) * 2 ^ b + x / 2 ^ (16 - b)
+unfolding shift_of
 csl_parts b x h l = let e : b + (16 - b) ≡ 16 = omega arith in ap (λ (n : ℕ). n + x / 2 ^ (16 - b)) (left_part x b (16 - b) e l)
 
 over_small : (b x : ℕ) → b ≤ 15 → x < 65536 → x / 2 ^ (16 - b) < 2 ^ b
@@ -107,7 +107,7 @@ over_small b x h l =
     let p : 2 ^ (b + (16 - b)) ≡ 65536 = ap (λ (n : ℕ). 2 ^ n) e in
     shr_below x b (16 - b) (omega arith)
 
-pub csl_bits : (b k x : ℕ) → b ≤ 15 → k + b < 16 → x < 65536 → bit k (shifted Csl b x) ≡ bit (k + b) x
+pub csl_bits : (b k x : ℕ) → b ≤ 15 → k + b < 16 → x < 65536 → bit k (shift_of Csl b x) ≡ bit (k + b) x
 csl_bits b k x h l t =
     let s = 16 - b in
     let i = 15 - (k + b) in
@@ -119,7 +119,7 @@ csl_bits b k x h l t =
     ∙ ap (λ (n : ℕ). n % 2) (sym (shr-shr y b i) ∙ ap (λ (n : ℕ). n / 2 ^ i) (shr_high (x % 2 ^ s) b (x / 2 ^ s) (over_small b x h t)))
     ∙ bit_under (k + b) s (x % 2 ^ s) x (omega arith) m
 
-pub csl_round : (b k x : ℕ) → b ≤ 15 → k < 16 → 16 ≤ k + b → x < 65536 → bit k (shifted Csl b x) ≡ bit (k + b - 16) x
+pub csl_round : (b k x : ℕ) → b ≤ 15 → k < 16 → 16 ≤ k + b → x < 65536 → bit k (shift_of Csl b x) ≡ bit (k + b - 16) x
 csl_round b k x h g l t =
     let s = 16 - b in
     let y = x % 2 ^ s * 2 ^ b + x / 2 ^ s in
@@ -131,8 +131,8 @@ csl_round b k x h g l t =
     ∙ ap (λ (n : ℕ). n % 2) (shr-shr x s (15 - k))
     ∙ ap (λ (n : ℕ). x / 2 ^ n % 2) f
 
-pub round_back : (b x : ℕ) → b ≤ 15 → x < 65536 → shifted Csr b (shifted Csl b x) ≡ x
-unfolding shifted
+pub round_back : (b x : ℕ) → b ≤ 15 → x < 65536 → shift_of Csr b (shift_of Csl b x) ≡ x
+unfolding shift_of
 round_back b x h l =
     let k = 16 - b in
     let e : b + k ≡ 16 = omega arith in

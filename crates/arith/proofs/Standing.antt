@@ -10,7 +10,7 @@ use Rattle.arith.specs.declared.relation.Relation.{Relation}
 use Rattle.arith.specs.declared.relation.Relation.TheVariants.{Equal, Unequal, Less, AtMost, Greater, AtLeast}
 use Rattle.arith.specs.declared.shift.Kind.{Kind}
 use Rattle.arith.specs.declared.shift.Kind.TheVariants.{Lsl, Lsr, Asr, Csl, Csr}
-use Rattle.arith.specs.Integers.{int, fitted, sum, difference, product, quotient, remainder, negation, within}
+use Rattle.arith.specs.Integers.{int, integer_word, sum, difference, product, quotient, remainder, negation, within}
 use Rattle.arith.specs.Logicals.{lsum, ldifference, lproduct, lquotient, lremainder}
 use Rattle.arith.specs.Relations.{relation_number, relation_of}
 use Rattle.arith.specs.Fields.{field}
@@ -47,8 +47,8 @@ exactly_cond : (z : ℤ) (t : Bool) (w : ℕ) → (t ≡ true → Exactly z (Ok 
 exactly_cond z true w f g = f refl
 exactly_cond z false w f g = g refl
 
-exact : (z : ℤ) → Exactly z (fitted z)
-unfolding fitted
+exact : (z : ℤ) → Exactly z (integer_word z)
+unfolding integer_word
 exact (pos n) =
     exactly_cond (pos n) (ltb n 32768) n
     (λ e. let l = ltb-true n 32768 e in (omega arith, int_below n l))

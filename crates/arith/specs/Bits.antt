@@ -1,10 +1,10 @@
--- Words bit by bit. `bit_and`, `bit_or` and `bit_xor` of the library are those of two words.
+-- Words bit by bit. The operations on two words are `bit_and`, `bit_or` and `bit_xor` of the library.
 use Rattle.std.specs.Prelude.{ℕ, ◌-◌, ◌/◌, ◌%◌, ◌^◌, bit_xor}
 
--- every bit is turned
+-- The word with every bit turned.
 unfoldable pub complement : ℕ → ℕ
 complement x = bit_xor x 65535
 
--- bit k of a word, where bit 0 is the highest
+-- The bit k of a word. Bit 0 is the highest.
 abbrev pub bit : ℕ → ℕ → ℕ
 bit k w = w / 2 ^ (15 - k) % 2

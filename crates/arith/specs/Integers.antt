@@ -5,59 +5,64 @@ use Rattle.std.specs.Int.Signed.{mag}
 use Rattle.arith.specs.declared.stop.Stop.{Stop}
 use Rattle.arith.specs.Stops.{stop}
 
--- the INTEGER that a word is: from 32,768 on it is the word less 65,536
+-- The INTEGER that a word is. From 32,768 on it is the word less 65,536.
 unfoldable pub int : ℕ → ℤ
 int w = cond (nat_lt w 32768) (pos w) (negsuc (65535 - w))
 
--- the word that an INTEGER is, or stop 1 outside -32,768..32,767
-unfoldable pub fitted : ℤ → Result ℕ Stop
-fitted (pos n) = cond (nat_lt n 32768) (Ok n) (stop 1)
-fitted (negsuc n) = cond (nat_lt n 32768) (Ok (65535 - n)) (stop 1)
+-- The word of an INTEGER, or stop 1 outside -32,768..32,767.
+unfoldable pub integer_word : ℤ → Result ℕ Stop
+integer_word (pos n) = cond (nat_lt n 32768) (Ok n) (stop 1)
+integer_word (negsuc n) = cond (nat_lt n 32768) (Ok (65535 - n)) (stop 1)
 
--- r, or stop 2 where the divisor is 0
-abbrev pub divided : ℕ → Result ℕ Stop → Result ℕ Stop
-divided x r = cond (x == 0) (stop 2) r
+-- The answer r, or stop 2 if the divisor x is 0.
+abbrev pub unless_by_zero : ℕ → Result ℕ Stop → Result ℕ Stop
+unless_by_zero x r = cond (x == 0) (stop 2) r
 
+-- The sum y + x, or stop 1.
 unfoldable pub sum : ℕ → ℕ → Result ℕ Stop
-sum y x = fitted (int y +ℤ int x)
+sum y x = integer_word (int y +ℤ int x)
 
+-- The difference y - x, or stop 1.
 unfoldable pub difference : ℕ → ℕ → Result ℕ Stop
-difference y x = fitted (int y -ℤ int x)
+difference y x = integer_word (int y -ℤ int x)
 
+-- The product y * x, or stop 1.
 unfoldable pub product : ℕ → ℕ → Result ℕ Stop
-product y x = fitted (int y *ℤ int x)
+product y x = integer_word (int y *ℤ int x)
 
--- truncated toward zero
+-- The quotient y / x, truncated toward zero; or stop 1 or 2.
 unfoldable pub quotient : ℕ → ℕ → Result ℕ Stop
-quotient y x = divided x (fitted (int_div (int y) (int x)))
+quotient y x = unless_by_zero x (integer_word (int_div (int y) (int x)))
 
--- with the sign of its dividend
+-- The remainder of y / x, with the sign of y; or stop 2.
 unfoldable pub remainder : ℕ → ℕ → Result ℕ Stop
-remainder y x = divided x (fitted (int_rem (int y) (int x)))
+remainder y x = unless_by_zero x (integer_word (int_rem (int y) (int x)))
 
+-- The INTEGER -x, or stop 1.
 unfoldable pub negation : ℕ → Result ℕ Stop
-negation x = fitted (neg_ℤ (int x))
+negation x = integer_word (neg_ℤ (int x))
 
--- whether i as an INTEGER is from 0 and below n
+-- Whether i, read as an INTEGER, is at least 0 and below n.
 unfoldable pub within : ℕ → ℕ → Bool
 within i n = int_le (pos 0) (int i) && int_lt (int i) (pos n)
 
--- i, if it is; else the stop of the number e
+-- The index i if it is within n, else the stop with the number e.
 abbrev pub below : ℕ → ℕ → ℕ → Result ℕ Stop
 below e i n = cond (within i n) (Ok i) (stop e)
 
--- a subscript i of an array of n cells
+-- The subscript i of an array of n cells, or stop 3.
 unfoldable pub subscript : ℕ → ℕ → Result ℕ Stop
 subscript i n = below 3 i n
 
--- the index i of a CASE of n statements
-unfoldable pub chosen : ℕ → ℕ → Result ℕ Stop
-chosen i n = below 4 i n
+-- The index i of a CASE of n statements, or stop 4.
+unfoldable pub case_index : ℕ → ℕ → Result ℕ Stop
+case_index i n = below 4 i n
 
--- whether a FOR takes another turn: up to the limit, or down to it where the step is negative
+-- Whether a FOR with the variable v, the step s and the limit l takes another turn: v is not above l, or not below l
+-- if the step is negative.
 unfoldable pub turns : ℕ → ℕ → ℕ → Bool
 turns v s l = cond (int_le (pos 0) (int s)) (int_le (int v) (int l)) (int_le (int l) (int v))
 
--- from -32,768 to 32,767
+-- The number is from -32,768 to 32,767.
 abbrev pub Small : ℤ → Type 0
 Small z = mag z < 32768

@@ -5,6 +5,7 @@ use Rattle.arith.specs.declared.relation.Relation.TheVariants.{Equal, Unequal, L
 use Rattle.arith.specs.Integers.{int}
 use Rattle.arith.specs.Logicals.{truth}
 
+-- The number of each relation.
 abbrev pub relation_number : Relation → ℕ
 relation_number Equal = 0
 relation_number Unequal = 1
@@ -13,7 +14,7 @@ relation_number AtMost = 3
 relation_number Greater = 4
 relation_number AtLeast = 5
 
--- the relation of a number up to 5
+-- The relation of a number up to 5.
 abbrev pub relation_of : ℕ → Relation
 relation_of zero = Equal
 relation_of (suc zero) = Unequal
@@ -22,10 +23,12 @@ relation_of (suc (suc (suc zero))) = AtMost
 relation_of (suc (suc (suc (suc zero)))) = Greater
 relation_of (suc (suc (suc (suc (suc n))))) = AtLeast
 
+-- The relation of a number; none if the number is over 5.
 abbrev pub relation_at : ℕ → Option Relation
 relation_at n = cond (nat_le n 5) (Some (relation_of n)) None
 
--- whether the relation holds, where it is known whether the left is less, and whether both are the same
+-- Whether a relation holds, if it is known whether the left side is less than the right one and whether both are the
+-- same.
 abbrev pub holds : Relation → Bool → Bool → Bool
 holds Equal less same = same
 holds Unequal less same = not same
@@ -34,10 +37,10 @@ holds AtMost less same = less || same
 holds Greater less same = not (less || same)
 holds AtLeast less same = not less
 
--- of INTEGERs
-unfoldable pub compared : Relation → ℕ → ℕ → ℕ
-compared r y x = truth (holds r (int_lt (int y) (int x)) (y == x))
+-- TRUE or FALSE: whether the relation holds of y and x as INTEGERs.
+unfoldable pub comparison : Relation → ℕ → ℕ → ℕ
+comparison r y x = truth (holds r (int_lt (int y) (int x)) (y == x))
 
--- of LOGICALs
-unfoldable pub lcompared : Relation → ℕ → ℕ → ℕ
-lcompared r y x = truth (holds r (nat_lt y x) (y == x))
+-- TRUE or FALSE: whether the relation holds of y and x as LOGICALs.
+unfoldable pub lcomparison : Relation → ℕ → ℕ → ℕ
+lcomparison r y x = truth (holds r (nat_lt y x) (y == x))

@@ -1,6 +1,6 @@
 // A field of a word: some of its bits, counted from the highest.
 ghost use Rattle.std.specs.Prelude.{◌≡◌, true, false, MatchOption};
-ghost use Rattle.arith.specs.Fields.{is_field, field, deposited};
+ghost use Rattle.arith.specs.Fields.{is_field, field, with_field};
 
 /// A field of `count` bits from the bit `from`, where bit 0 is the highest. It has 1 to 15 bits and ends within the word.
 #[derive(Clone, Copy, PartialEq, Eq, Debug)]
@@ -14,7 +14,8 @@ impl Field {
     /// The field of `count` bits from the bit `from`, or `None` where `count` is not 1 to 15 or the field passes the word.
     #[inline(always)]
     pub fn new(from: u16, count: u16) -> Option<Field>
-        ensures { MatchOption result (is_field from count ≡ false) (λ f. (is_field from count ≡ true) × (f.from ≡ from) × (f.count ≡ count)) }
+        ensures { MatchOption result (is_field from count ≡ false)
+            (λ f. (is_field from count ≡ true) × (f.from ≡ from) × (f.count ≡ count)) }
     {
         if count < 1 || count > 15 || from > 16 - count {
             return None;
@@ -33,7 +34,7 @@ impl Field {
     /// The word `x` with the bits of the field replaced by the lowest bits of `v`.
     #[inline(always)]
     pub fn deposit(self, x: u16, v: u16) -> u16
-        ensures { result ≡ deposited self.from self.count x v }
+        ensures { result ≡ with_field self.from self.count x v }
     {
         let above = 16 - self.from;
         let below = 16 - self.from - self.count;

@@ -1,8 +1,8 @@
 // Words as INTEGERs, in two's complement. Results are worked out in 32 bits, where nothing overflows.
 ghost use Rattle.std.specs.Prelude.{◌≡◌};
-ghost use Rattle.arith.specs.Integers.{int, fitted, Small, sum, difference, product, quotient, remainder, negation};
+ghost use Rattle.arith.specs.Integers.{int, integer_word, Small, sum, difference, product, quotient, remainder, negation};
 ghost use Rattle.arith.specs.Stops.{number_of};
-ghost use Rattle.arith.specs.Integers.{subscript as subscript_of, chosen as chosen_of, turns as turns_of, within as within_of, below as below_of};
+ghost use Rattle.arith.specs.Integers.{subscript as subscript_of, case_index as case_index_of, turns as turns_of, within as within_of, below as below_of};
 
 use super::stop::Stop;
 
@@ -23,7 +23,7 @@ pub fn value(w: u16) -> i32
 /// The word that stands for an INTEGER. Stops with 1 where `v` is outside -32,768 to 32,767.
 #[inline(always)]
 pub fn fit(v: i32) -> Result<u16, Stop>
-    ensures { result ≡ fitted v }
+    ensures { result ≡ integer_word v }
 {
     if v < LEAST || v > GREATEST {
         return Err(Stop::Overflow);
@@ -116,10 +116,10 @@ pub fn subscript(i: u16, n: u16) -> Result<u16, Stop>
 }
 
 /// The index `i` of a CASE of `n` statements. Stops with 4 where `i`, read as an INTEGER, is below 0 or not below `n`.
-#[tactic(auto, unfolding(crate::specs::Integers::chosen))]
+#[tactic(auto, unfolding(crate::specs::Integers::case_index))]
 #[inline(always)]
-pub fn chosen(i: u16, n: u16) -> Result<u16, Stop>
-    ensures { result ≡ chosen_of i n }
+pub fn case_index(i: u16, n: u16) -> Result<u16, Stop>
+    ensures { result ≡ case_index_of i n }
 {
     below(i, n, Stop::BadCase)
 }

@@ -1,4 +1,4 @@
-// Operations on words of sixteen bits, bit 0 the highest: each is an answer or a stop.
+// Operations on words of sixteen bits, of which bit 0 is the highest. Each operation gives an answer or a stop.
 #![tactic(auto)]
 
 pub mod bits;

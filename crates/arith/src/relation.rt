@@ -1,6 +1,6 @@
-// The relations, and what they answer of two words: TRUE or FALSE.
+// The relations, and whether they hold of two words: TRUE or FALSE.
 ghost use Rattle.std.specs.Prelude.{◌≡◌, MatchResult, Some, None};
-ghost use Rattle.arith.specs.Relations.{relation_number, relation_at, holds as holds_of, compared, lcompared};
+ghost use Rattle.arith.specs.Relations.{relation_number, relation_at, holds as holds_of, comparison, lcomparison};
 
 use super::integer::value;
 use super::logical::truth;
@@ -52,7 +52,7 @@ impl TryFrom<u16> for Relation {
 }
 
 impl Relation {
-    // Whether the relation holds, where it is known whether the left word is less, and whether both are the same.
+    // Whether the relation holds, from whether the left word is less and whether both are the same.
     #[inline(always)]
     fn holds(self, less: bool, same: bool) -> bool
         ensures { result ≡ holds_of self less same }
@@ -70,20 +70,20 @@ impl Relation {
 
 /// TRUE (65,535) where the relation holds of `y` on the left and `x` on the right, both read as INTEGERs, and else FALSE
 /// (0).
-#[tactic(auto, unfolding(crate::specs::Relations::compared))]
+#[tactic(auto, unfolding(crate::specs::Relations::comparison))]
 #[inline(always)]
 pub fn compare(by: Relation, y: u16, x: u16) -> u16
-    ensures { result ≡ compared by y x }
+    ensures { result ≡ comparison by y x }
 {
     truth(by.holds(value(y) < value(x), y == x))
 }
 
 /// TRUE (65,535) where the relation holds of `y` on the left and `x` on the right, both read as LOGICALs, and else FALSE
 /// (0).
-#[tactic(auto, unfolding(crate::specs::Relations::lcompared))]
+#[tactic(auto, unfolding(crate::specs::Relations::lcomparison))]
 #[inline(always)]
 pub fn compare_logical(by: Relation, y: u16, x: u16) -> u16
-    ensures { result ≡ lcompared by y x }
+    ensures { result ≡ lcomparison by y x }
 {
     truth(by.holds(y < x, y == x))
 }

@@ -1,6 +1,6 @@
 // The shifts of a word.
 ghost use Rattle.std.specs.Prelude.{◌≡◌, ◌<◌, ◌≤◌, true, false, MatchOption, MatchResult};
-ghost use Rattle.arith.specs.Shifts.{kind_number, kind_of, is_shift, shifted};
+ghost use Rattle.arith.specs.Shifts.{kind_number, kind_of, is_shift, shift_of};
 
 use thiserror::Error;
 
@@ -64,7 +64,8 @@ impl Shift {
     /// The shift by `count` bits of the kind that has the number, or `None` where the number is over 4 or the count over 15.
     #[inline(always)]
     pub fn new(number: u16, count: u16) -> Option<Shift>
-        ensures { MatchOption result (is_shift number count ≡ false) (λ s. (is_shift number count ≡ true) × (s.kind ≡ kind_of number) × (s.count ≡ count)) }
+        ensures { MatchOption result (is_shift number count ≡ false)
+            (λ s. (is_shift number count ≡ true) × (s.kind ≡ kind_of number) × (s.count ≡ count)) }
     {
         if count > 15 {
             return None;
@@ -78,7 +79,7 @@ impl Shift {
     /// The word `x` after the shift.
     #[inline(always)]
     pub fn apply(self, x: u16) -> u16
-        ensures { result ≡ shifted self.kind self.count x }
+        ensures { result ≡ shift_of self.kind self.count x }
     {
         let b = self.count;
         match self.kind {

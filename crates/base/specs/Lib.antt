@@ -1,5 +1,6 @@
 pub mod Cells
 pub mod Halves
+pub mod Limits
 pub mod Lists
 pub mod Ops
 pub mod Refusals

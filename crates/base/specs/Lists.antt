@@ -3,38 +3,43 @@ use Rattle.std.specs.Prelude.{◌≡◌, ℕ, ◌+◌, ◌-◌, ◌<◌, ◌≤�
 use Rattle.base.specs.declared.list.Bounded.{Bounded}
 
 module _ {X : Type 0} where
-  -- the list: the first `len` cells
-  abbrev pub held : Bounded X → List X
-  held b = take b.len b.cells.now
+  -- The elements of the list: the first `len` cells.
+  abbrev pub contents : Bounded X → List X
+  contents b = take b.len b.cells.now
 
-  -- every cell, past the list too
+  -- All cells that were lent, also those past the list.
   abbrev pub room : Bounded X → List X
   room b = b.cells.now
 
-  -- the same loan
+  -- Both lists are over the same loan.
   abbrev pub Lends : Bounded X → Bounded X → Type 0
   Lends b d = d.cells.ghost_name ≡ b.cells.ghost_name
 
-  -- nothing changed
+  -- Nothing changed: neither the length, nor a cell, nor the loan.
   abbrev pub Same : Bounded X → Bounded X → Type 0
   Same b d = (d.len ≡ b.len) × (room d ≡ room b) × Lends b d
 
-  -- x stands at the end, in the next cell; or every cell is taken, and their number is answered
-  abbrev pub Pushed : {U : Type 0} → Bounded X → X → Bounded X → Result U ℕ → Type 0
-  Pushed b x d (Ok u) = (b.len < length (room b)) × (held d ≡ held b ++ x ∷ []) × (d.len ≡ b.len + 1) × (room d ≡ slice_set (room b) b.len x) × Lends b d
-  Pushed b x d (Err e) = (e ≡ length (room b)) × (b.len ≡ length (room b)) × Same b d
+  -- A push puts x at the end, into the next cell. If every cell is taken already, it answers their number and changes
+  -- nothing.
+  abbrev pub IsPushed : {U : Type 0} → Bounded X → X → Bounded X → Result U ℕ → Type 0
+  IsPushed b x d (Ok u) =
+      (b.len < length (room b)) × (contents d ≡ contents b ++ x ∷ []) × (d.len ≡ b.len + 1) × (room d ≡ slice_set (room b) b.len x) × Lends b d
+  IsPushed b x d (Err e) = (e ≡ length (room b)) × (b.len ≡ length (room b)) × Same b d
 
-  -- the last element is taken, and no cell changes
-  abbrev pub Popped : Bounded X → Bounded X → Option X → Type 0
-  Popped b d None = (b.len ≡ 0) × Same b d
-  Popped b d (Some x) = (held b ≡ held d ++ x ∷ []) × (d.len + 1 ≡ b.len) × (room d ≡ room b) × Lends b d
+  -- A pop takes the last element and changes no cell. It answers none if the list is empty.
+  abbrev pub IsPopped : Bounded X → Bounded X → Option X → Type 0
+  IsPopped b d None = (b.len ≡ 0) × Same b d
+  IsPopped b d (Some x) = (contents b ≡ contents d ++ x ∷ []) × (d.len + 1 ≡ b.len) × (room d ≡ room b) × Lends b d
 
-  -- the last n elements are taken, and no cell changes; or there are fewer, and their number is answered
-  abbrev pub Cut : {U : Type 0} → Bounded X → ℕ → Bounded X → Result U ℕ → Type 0
-  Cut b n d (Ok u) = (n ≤ b.len) × (held d ≡ take (b.len - n) (held b)) × (d.len ≡ b.len - n) × (room d ≡ room b) × Lends b d
-  Cut b n d (Err e) = (e ≡ b.len) × (b.len < n) × Same b d
+  -- A cut takes the last n elements and changes no cell. If there are fewer, it answers their number and changes
+  -- nothing.
+  abbrev pub IsCut : {U : Type 0} → Bounded X → ℕ → Bounded X → Result U ℕ → Type 0
+  IsCut b n d (Ok u) =
+      (n ≤ b.len) × (contents d ≡ take (b.len - n) (contents b)) × (d.len ≡ b.len - n) × (room d ≡ room b) × Lends b d
+  IsCut b n d (Err e) = (e ≡ b.len) × (b.len < n) × Same b d
 
-  -- x stands at i; or the list is no longer than i
-  abbrev pub Changed : {U : Type 0} → Bounded X → ℕ → X → Bounded X → Result U ℕ → Type 0
-  Changed b i x d (Ok u) = (i < b.len) × (held d ≡ slice_set (held b) i x) × (d.len ≡ b.len) × (room d ≡ slice_set (room b) i x) × Lends b d
-  Changed b i x d (Err e) = (e ≡ i) × (b.len ≤ i) × Same b d
+  -- A change puts x at the index i. If the list is no longer than i, it answers i and changes nothing.
+  abbrev pub IsChanged : {U : Type 0} → Bounded X → ℕ → X → Bounded X → Result U ℕ → Type 0
+  IsChanged b i x d (Ok u) =
+      (i < b.len) × (contents d ≡ slice_set (contents b) i x) × (d.len ≡ b.len) × (room d ≡ slice_set (room b) i x) × Lends b d
+  IsChanged b i x d (Err e) = (e ≡ i) × (b.len ≤ i) × Same b d

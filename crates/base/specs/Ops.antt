@@ -1,13 +1,15 @@
--- The instructions.
+-- The instructions: their numbers, their operands, the words that they take and leave, and their names.
 use Rattle.std.specs.Prelude.{ℕ, List, [], ◌∷◌, codes, Option, slice_get}
 use Rattle.std.specs.Option.{option_map}
 use Rattle.base.specs.declared.op.Op.{Op}
 use Rattle.base.specs.declared.op.Op.TheVariants.{Halt, Lit, Load, Stor, Ldx, Stx, Chk, Dup, Drop, Add, Sub, Mul, Div, Rem, Neg, Ladd, Lsub, Lmul, Ldiv, Lrem, Cmp, Lcmp, And, Or, Xor, Not, Fld, Dep, Shf, Br, Bre, Case, For, Next}
 
--- in the order of their numbers, from 0
+-- All instructions, in the order of their numbers, from 0.
 abbrev pub ops : List Op
-ops = Halt ∷ Lit ∷ Load ∷ Stor ∷ Ldx ∷ Stx ∷ Chk ∷ Dup ∷ Drop ∷ Add ∷ Sub ∷ Mul ∷ Div ∷ Rem ∷ Neg ∷ Ladd ∷ Lsub ∷ Lmul ∷ Ldiv ∷ Lrem ∷ Cmp ∷ Lcmp ∷ And ∷ Or ∷ Xor ∷ Not ∷ Fld ∷ Dep ∷ Shf ∷ Br ∷ Bre ∷ Case ∷ For ∷ Next ∷ []
+ops =
+    Halt ∷ Lit ∷ Load ∷ Stor ∷ Ldx ∷ Stx ∷ Chk ∷ Dup ∷ Drop ∷ Add ∷ Sub ∷ Mul ∷ Div ∷ Rem ∷ Neg ∷ Ladd ∷ Lsub ∷ Lmul ∷ Ldiv ∷ Lrem ∷ Cmp ∷ Lcmp ∷ And ∷ Or ∷ Xor ∷ Not ∷ Fld ∷ Dep ∷ Shf ∷ Br ∷ Bre ∷ Case ∷ For ∷ Next ∷ []
 
+-- The number of each instruction.
 abbrev pub number_of : Op → ℕ
 number_of Halt = 0
 number_of Lit = 1
@@ -44,7 +46,7 @@ number_of Case = 31
 number_of For = 32
 number_of Next = 33
 
--- how many operands it names: none, `a` alone, or `a` and `b`
+-- How many operands an instruction names: none, `a` alone, or `a` and `b`.
 abbrev pub named_by : Op → ℕ
 named_by Lit = 1
 named_by Load = 1
@@ -65,11 +67,11 @@ named_by For = 2
 named_by Next = 2
 named_by _ = 0
 
--- by the instruction's number; there is none over 33
+-- How many operands the instruction of this number names; none if the number is over 33.
 unfoldable pub operands_of : ℕ → Option ℕ
 operands_of n = option_map named_by (slice_get ops n)
 
--- how many words it looks at on the stack: DROP as many as its operand says
+-- How many words an instruction looks at on the stack. DROP looks at as many as its operand says.
 abbrev pub taken_by : Op → ℕ → ℕ
 taken_by Halt a = 0
 taken_by Lit a = 0
@@ -88,7 +90,7 @@ taken_by Case a = 1
 taken_by Drop a = a
 taken_by _ a = 2
 
--- how many words it leaves in the place of those
+-- How many words an instruction leaves in place of those that it looks at.
 abbrev pub left_by : Op → ℕ
 left_by Halt = 0
 left_by Stor = 0
@@ -102,7 +104,7 @@ left_by For = 2
 left_by Next = 2
 left_by _ = 1
 
--- how a listing names it
+-- The name of each instruction in a listing.
 abbrev pub op_text : Op → List ℕ
 op_text Halt = codes "HALT"
 op_text Lit = codes "LIT"

@@ -182,7 +182,7 @@ impl Op {
         }
     }
 
-    /// How many words the instruction leaves in the place of those, at most 2.
+    /// How many words the instruction leaves in place of the words that it looks at. They are at most 2.
     pub fn leaves(self) -> u8
         ensures value { result ≡ left_by self }
         ensures few { result ≤ 2 }
@@ -237,7 +237,7 @@ impl Op {
     }
 }
 
-// By hand: a derive gives no contract.
+// Written by hand, since a derive gives no contract.
 impl fmt::Display for Op {
     ghost output = { λ op. Some (op_text op) };
 

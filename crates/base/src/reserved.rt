@@ -95,7 +95,8 @@ impl<T: Copy, const N: usize> Reserved<T, N> {
     /// and changes neither.
     pub fn hand_over(&mut self, table: &mut [T]) -> Result<(), usize>
         ensures answer { result ≡ cond (nat_le (length self.old) (length table.old)) (Ok tt) (Err (length self.old)) }
-        ensures laid { length self.old ≤ length table.old → table.new ≡ reverse self.old ++ drop (length self.old) table.old }
+        ensures laid { length self.old ≤ length table.old
+            → table.new ≡ reverse self.old ++ drop (length self.old) table.old }
         ensures left { length self.old ≤ length table.old → self.new ≡ [] }
         ensures short { length table.old < length self.old → (table.new ≡ table.old) × (self.new ≡ self.old) }
     {

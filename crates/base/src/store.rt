@@ -1,5 +1,6 @@
 // Memory of words, read and written by cell.
 ghost use Rattle.std.specs.Prelude.{◌≡◌, ℕ, ◌<◌, ◌≤◌, List, MatchResult, length, slice_index, slice_set};
+ghost use Rattle.base.specs.Limits.{most_words};
 ghost use Rattle.base.specs.Refusals.{told};
 ghost use Rattle.base.specs.declared.store.StoreFault.TheVariants.{NoCell};
 ghost use Rattle.base.specs.Stores.{read_of, write_of, refusal_of};
@@ -9,7 +10,7 @@ use thiserror::Error;
 
 pub mod bytes;
 pub mod joined;
-pub mod lent;
+pub mod words;
 
 /// Why a store does not read or write.
 #[derive(Clone, Copy, PartialEq, Eq, Debug, Error)]
@@ -32,9 +33,6 @@ impl From<StoreFault> for Refusal {
     }
 }
 
-// The most words that a store uses.
-const MOST: usize = 65535;
-
 // Checks that a store of `size` words has the cell.
 #[inline(always)]
 fn within(cell: u16, size: u16) -> Result<(), StoreFault>
@@ -56,7 +54,7 @@ pub trait Store {
     /// The loan is the same, and the memory that holds none of the words is unchanged.
     ghost keeps: { Self → Self → Type 0 };
 
-    ghost short: { (s : Self) → length (words s) ≤ 65535 };
+    ghost short: { (s : Self) → length (words s) ≤ most_words };
 
     ghost small: { (s : Self) (k : ℕ) → slice_index (words s) k < 65536 };
 

@@ -6,9 +6,9 @@ use Rattle.base.specs.Stacks.{below}
 use Rattle.ir.specs.declared.item.Item.{Item}
 use Rattle.ir.specs.declared.item.Item.TheVariants as item
 use Rattle.ir.specs.Instrs.{BR}
-use Rattle.codegen.specs.declared.place.Placed.{Placed}
-use Rattle.codegen.specs.declared.place.Aim.{Aim}
-use Rattle.codegen.specs.Items.{Back, behind, back, emits, aims, top, along, next, starts, placed, places, ends, table, without, last, emitted}
+use Rattle.codegen.specs.declared.placed.Placed.{Placed}
+use Rattle.codegen.specs.declared.placed.Aim.{Aim}
+use Rattle.codegen.specs.Items.{Back, behind, back, emits, aims, top, along, next, starts, placement, placements, ends, table, without, last, code_of_items}
 use Rattle.codegen.specs.Passes.{Low}
 
 pub along_sum : (n p : ℕ) → along n p ≡ p + n
@@ -47,18 +47,18 @@ module _ (ns : List Item) (i : ℕ) (d : Item) (h : i < length ns) where
   pub fits_more : (p : ℕ) → ends (drop i ns) p ≡ ends ns 0 → ends ns 0 < 65536 → next (get_or ns i d) p < 65536
   fits_more p e f = omega (arith, ends_more p, ends_further (drop (i + 1) ns) (next (get_or ns i d) p))
 
-  pub places_more : (o o' r : List Placed) (p : ℕ) (ss : List ℕ) → o' ≡ o ++ placed (get_or ns i d) p ss ∷ [] → o ++ places (drop i ns) p ss ≡ r → o' ++ places (drop (i + 1) ns) (next (get_or ns i d) p) (starts (get_or ns i d) p ss) ≡ r
+  pub places_more : (o o' r : List Placed) (p : ℕ) (ss : List ℕ) → o' ≡ o ++ placement (get_or ns i d) p ss ∷ [] → o ++ placements (drop i ns) p ss ≡ r → o' ++ placements (drop (i + 1) ns) (next (get_or ns i d) p) (starts (get_or ns i d) p ss) ≡ r
   places_more o o' r p ss f e =
       let n = get_or ns i d in
-      ap (λ l. l ++ places (drop (i + 1) ns) (next n p) (starts n p ss)) f
-      ∙ append_assoc o (placed n p ss ∷ []) (places (drop (i + 1) ns) (next n p) (starts n p ss))
-      ∙ ap (λ l. o ++ places l p ss) (sym (drop_more ns i d h))
+      ap (λ l. l ++ placements (drop (i + 1) ns) (next n p) (starts n p ss)) f
+      ∙ append_assoc o (placement n p ss ∷ []) (placements (drop (i + 1) ns) (next n p) (starts n p ss))
+      ∙ ap (λ l. o ++ placements l p ss) (sym (drop_more ns i d h))
       ∙ e
 
-pub places_all : (ns : List Item) (i : ℕ) (o r : List Placed) (p : ℕ) (ss : List ℕ) → length ns ≤ i → o ++ places (drop i ns) p ss ≡ r → o ≡ r
-places_all ns i o r p ss h e = sym (append-nil o) ∙ ap (λ l. o ++ places l p ss) (sym (drop_all i ns h)) ∙ e
+pub places_all : (ns : List Item) (i : ℕ) (o r : List Placed) (p : ℕ) (ss : List ℕ) → length ns ≤ i → o ++ placements (drop i ns) p ss ≡ r → o ≡ r
+places_all ns i o r p ss h e = sym (append-nil o) ∙ ap (λ l. o ++ placements l p ss) (sym (drop_all i ns h)) ∙ e
 
-pub places_long : (ns : List Item) (p : ℕ) (ss : List ℕ) → length (places ns p ss) ≡ length ns
+pub places_long : (ns : List Item) (p : ℕ) (ss : List ℕ) → length (placements ns p ss) ≡ length ns
 places_long [] p ss = refl
 places_long (n ∷ ns) p ss = ap suc (places_long ns (next n p) (starts n p ss))
 
@@ -103,16 +103,16 @@ back_last (y ∷ xs) x z = ap (behind y) (back_last xs x z)
 pub back_more : (xs ys : List Placed) (x : Placed) (z z' r : Back) → ys ≡ xs ++ x ∷ [] → z' ≡ behind x z → back ys z ≡ r → back xs z' ≡ r
 back_more xs ys x z z' r e a h = ap (back xs) a ∙ sym (back_last xs x z) ∙ ap (λ l. back l z) (sym e) ∙ h
 
-pub back_code : (ns : List Item) (xs : List Placed) → xs ≡ places ns 0 [] → (back xs last).code ≡ emitted ns
-unfolding emitted
+pub back_code : (ns : List Item) (xs : List Placed) → xs ≡ placements ns 0 [] → (back xs last).code ≡ code_of_items ns
+unfolding code_of_items
 back_code ns xs e = ap (λ (z : Back). z.code) (ap (λ l. back l last) e)
 
 -- rooms
-pub low_places : (ns : List Item) (p : ℕ) (ss : List ℕ) → ends ns p < 65535 → Low (places ns p ss)
+pub low_places : (ns : List Item) (p : ℕ) (ss : List ℕ) → ends ns p < 65535 → Low (placements ns p ss)
 low_places [] p ss h = tt
 low_places (n ∷ ns) p ss h = (omega (arith, further n p, ends_further ns (next n p)), low_places ns (next n p) (starts n p ss) h)
 
-pub low_last : (xs : List Placed) (x : Placed) → Low (xs ++ x ∷ []) → Low xs × (x.place < 65535)
+pub low_last : (xs : List Placed) (x : Placed) → Low (xs ++ x ∷ []) → Low xs × (x.index < 65535)
 low_last [] x h = (tt, h.0)
 low_last (y ∷ xs) x h = let r = low_last xs x h.1 in ((h.0, r.0), r.1)
 
@@ -120,10 +120,10 @@ pub longer : (xs : List Placed) (z : Back) → length z.code ≤ length (back xs
 longer [] z = omega arith
 longer (x ∷ xs) z =
     let y = back xs z in
-    omega (arith, longer xs z, length-append (emits x.item x.place x.after x.start y.todo) y.code)
+    omega (arith, longer xs z, length-append (emits x.item x.index x.after x.start y.todo) y.code)
 
 -- what is emitted of an item is no longer than the whole
-pub back_room : (xs ys : List Placed) (x : Placed) (z r : Back) → ys ≡ xs ++ x ∷ [] → back ys z ≡ r → length (emits x.item x.place x.after x.start z.todo) + length z.code ≤ length r.code
+pub back_room : (xs ys : List Placed) (x : Placed) (z r : Back) → ys ≡ xs ++ x ∷ [] → back ys z ≡ r → length (emits x.item x.index x.after x.start z.todo) + length z.code ≤ length r.code
 back_room xs ys x z r e h =
     let k = ap (λ (w : Back). length w.code) (sym (back_last xs x z) ∙ ap (λ l. back l z) (sym e) ∙ h) in
-    omega (arith, k, longer xs (behind x z), length-append (emits x.item x.place x.after x.start z.todo) z.code)
+    omega (arith, k, longer xs (behind x z), length-append (emits x.item x.index x.after x.start z.todo) z.code)

@@ -10,9 +10,9 @@ use Rattle.base.specs.Heights.{up, down, height}
 use Rattle.ir.specs.Trees.{Body}
 use Rattle.ir.specs.Lists.{items}
 use Rattle.codegen.specs.Code.{depth}
-use Rattle.codegen.specs.declared.place.Aim.{Aim}
-use Rattle.codegen.specs.Items.{go, emits, next, starts, ends, table, emitted}
-use Rattle.codegen.specs.Measure.{stacked, deepest}
+use Rattle.codegen.specs.declared.placed.Aim.{Aim}
+use Rattle.codegen.specs.Items.{go, emits, next, starts, ends, table, code_of_items}
+use Rattle.codegen.specs.Measure.{height_after_item, deepest}
 use Rattle.codegen.specs.Trees.{Emission}
 use Rattle.codegen.proofs.Loops.{along_sum}
 use Rattle.codegen.proofs.Trees.{emission}
@@ -48,8 +48,8 @@ long (n ∷ ns) p ss =
     let is = emits n p (next n p) (get_or ss 0 0) z.todo in
     omega (arith, length-append is z.code, item_long n p (next n p) (get_or ss 0 0) z.todo, long ns (next n p) (starts n p ss))
 
-pub emitted_long : (ns : List Item) → length (emitted ns) ≡ ends ns 0 + 1
-unfolding emitted
+pub emitted_long : (ns : List Item) → length (code_of_items ns) ≡ ends ns 0 + 1
+unfolding code_of_items
 emitted_long ns = omega (arith, long ns 0 [])
 
 above : (h : ℕ) (is : List Instr) → h ≤ peak h is
@@ -62,7 +62,7 @@ unfolding peak
 table_deep zero ts h r = refl
 table_deep (suc n) ts h r = omega (arith, table_deep n (below ts) h r, above h r)
 
-item_deep : (n : Item) (p q s : ℕ) (ts : List Aim) (h : ℕ) (r : List Instr) → peak h (emits n p q s ts ++ r) ≡ max h (peak (stacked n h) r)
+item_deep : (n : Item) (p q s : ℕ) (ts : List Aim) (h : ℕ) (r : List Instr) → peak h (emits n p q s ts ++ r) ≡ max h (peak (height_after_item n h) r)
 unfolding peak
 item_deep (item.Plain i) p q s ts h r = refl
 item_deep item.Test p q s ts h r = refl
@@ -91,10 +91,10 @@ deep : (ns : List Item) (p : ℕ) (ss : List ℕ) (h : ℕ) → peak h (go ns p 
 deep [] p ss h = last_deep h
 deep (n ∷ ns) p ss h =
     let z = go ns (next n p) (starts n p ss) in
-    item_deep n p (next n p) (get_or ss 0 0) z.todo h z.code ∙ ap (max h) (deep ns (next n p) (starts n p ss) (stacked n h))
+    item_deep n p (next n p) (get_or ss 0 0) z.todo h z.code ∙ ap (max h) (deep ns (next n p) (starts n p ss) (height_after_item n h))
 
-emitted_deep : (ns : List Item) → peak 0 (emitted ns) ≡ deepest ns 0
-unfolding emitted
+emitted_deep : (ns : List Item) → peak 0 (code_of_items ns) ≡ deepest ns 0
+unfolding code_of_items
 emitted_deep ns = deep ns 0 [] 0
 
 tree_deep : (b : Body) → deepest (items b) 0 ≡ depth b
@@ -106,7 +106,7 @@ stands = record { long = emitted_long; deep = emitted_deep; code = emission; sta
 
 -- the loop
 module _ (ns : List Item) (i : ℕ) (d : Item) (h : i < length ns) where
-  pub deepest_more : (k m : ℕ) → m ≡ stacked (get_or ns i d) k → deepest (drop i ns) k ≡ max k (deepest (drop (i + 1) ns) m)
+  pub deepest_more : (k m : ℕ) → m ≡ height_after_item (get_or ns i d) k → deepest (drop i ns) k ≡ max k (deepest (drop (i + 1) ns) m)
   deepest_more k m e = ap (λ l. deepest l k) (drop_more ns i d h) ∙ ap (λ (j : ℕ). max k (deepest (drop (i + 1) ns) j)) (sym e)
 
 pub at_end : (ns : List Item) (i : ℕ) → length ns ≤ i → (p h : ℕ) → (ends (drop i ns) p ≡ p) × (deepest (drop i ns) h ≡ h)

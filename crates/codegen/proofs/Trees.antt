@@ -7,9 +7,9 @@ use Rattle.ir.specs.Instrs.{BR, BRE, CASE, DROP, CHK, DUP, LDX, LOAD}
 use Rattle.ir.specs.Trees.{Expr, lit, var, pick, bin, un, Clause, test, and, Cond, only, or, Stmt, assign, fill, deposit, deposit_at, when, either, while, repeat, for, case, Body, end, then, Arms, last, arm, size}
 use Rattle.ir.specs.Lists.{items_e, items_l, items_c, items_s, items_b, items_a, items}
 use Rattle.codegen.specs.Code.{end_e, end_l, end_c, end_s, end_b, end_a, table_end, table as branches, code_e, code_l, code_c, code_s, code_b, code_a, program}
-use Rattle.codegen.specs.declared.place.Aim.{Aim}
+use Rattle.codegen.specs.declared.placed.Aim.{Aim}
 use Rattle.base.specs.Stacks.{below}
-use Rattle.codegen.specs.Items.{Back, go, aims, top, along, table, without, emitted}
+use Rattle.codegen.specs.Items.{Back, go, aims, top, along, table, without, code_of_items}
 
 -- f in front of the code
 abbrev puts : (List Instr → List Instr) → Back → Back
@@ -22,7 +22,7 @@ expr (pick b n i) ns p ss = expr i _ p ss
 expr (bin o x y) ns p ss = expr x _ p ss ∙ ap (puts (code_e x)) (expr y _ (end_e x p) ss)
 expr (un o x) ns p ss = expr x _ p ss
 
--- each test goes to the place `no` of the top
+-- each test goes to the index `no` of the top
 clause : (l : Clause) (ns : List Item) (p : ℕ) (ss : List ℕ) → go (items_l l ns) p ss ≡ puts (code_l l (top (go ns (end_l l p) ss).todo).no) (go ns (end_l l p) ss)
 clause (test e) ns p ss = expr e _ p ss
 clause (and e l) ns p ss = expr e _ p ss ∙ ap (λ z. puts (code_e e) (record { code = BRE (top z.todo).no ∷ z.code; todo = z.todo })) (clause l ns (suc (end_e e p)) ss)
@@ -114,6 +114,6 @@ mutual
   arms (last b) ns p ss = rw (body b (item.Out ∷ ns) p ss)
   arms (arm b a) ns p ss = rw (body b (item.Out ∷ items_a a ns) p ss, arms a ns (suc (end_b b p)) ss, exit)
 
-pub emission : (b : Body) → emitted (items b) ≡ program b
-unfolding emitted program items
+pub emission : (b : Body) → code_of_items (items b) ≡ program b
+unfolding code_of_items program items
 emission b = ap (λ (z : Back). z.code) (body b [] 0 [])

@@ -1,12 +1,14 @@
 // The backward pass makes the code of each item after the code that follows it.
 ghost use Rattle.std.specs.Prelude.{◌≡◌, ◌+◌, ◌<◌, ◌≤◌, [], ◌∷◌, ◌++◌, length, reverse, drop, IfOk, slice_index_or};
+ghost use Rattle.base.specs.Limits.{most_items, code_room};
 ghost use Rattle.base.specs.Stacks.{below};
 ghost use Rattle.ir.specs.Instrs.{CASE};
 ghost use Rattle.codegen.specs.Items.{aims, blank, table as table_of, without, emits, behind, back, last};
 ghost use Rattle.codegen.specs.Passes.{Low};
 
-use crate::place::{Aim, CODE, ITEMS, Placed};
+use crate::placed::{Aim, Placed};
 use base::instr::Instr;
+use base::limits::{CODE_ROOM, MOST_ITEMS};
 use base::op::Op;
 use base::reserved::Reserved;
 use ir::item::Item;
@@ -16,8 +18,8 @@ use std::marker::Model;
 // Two stacks: the constructs that are open behind an item, and the instructions behind it. The next one is on top.
 #[derive(Drop)]
 pub(crate) struct Backward {
-    todo: Reserved<Aim, ITEMS>,
-    code: Reserved<Instr, CODE>,
+    todo: Reserved<Aim, MOST_ITEMS>,
+    code: Reserved<Instr, CODE_ROOM>,
 }
 
 impl Model for Backward {
@@ -42,7 +44,7 @@ impl Backward {
 
     // Puts an instruction in front of the code.
     fn put(&mut self, i: Instr)
-        requires { length self.old.code < 16384 }
+        requires { length self.old.code < code_room }
         ensures { self.new ≡ record { code = i ∷ self.old.code; todo = self.old.todo } }
     {
         let _ = self.code.push(i);
@@ -50,7 +52,7 @@ impl Backward {
 
     // Opens a construct.
     fn begin(&mut self, yes: u16, no: u16)
-        requires { length self.old.todo < 131072 }
+        requires { length self.old.todo < most_items }
         ensures { self.new ≡ record { code = self.old.code; todo = aims yes no ∷ self.old.todo } }
     {
         let _ = self.todo.push(Aim { yes, no });
@@ -72,7 +74,7 @@ impl Backward {
 
     // Puts a branch to each of the `n` innermost arms. The branch to the innermost arm stands first.
     fn branches(&mut self, n: u16)
-        requires { length self.old.code + n ≤ 16384 }
+        requires { length self.old.code + n ≤ code_room }
         ensures { self.new ≡ record { code = table_of n self.old.todo ++ self.old.code; todo = self.old.todo } }
     {
         for k in (0..n as usize).rev() {
@@ -90,23 +92,27 @@ impl Backward {
         }
     }
 
-    // Puts a CASE of `n` arms, which stands at `place`, and its table of branches. Closes the arms and the CASE.
-    fn choose(&mut self, place: u16, n: u16)
-        requires fits { place < 65535 }
-        requires room { length self.old.code + n < 16384 }
-        ensures { self.new ≡ record { code = CASE (place + 1) n ∷ table_of n self.old.todo ++ self.old.code; todo = below (without n self.old.todo) } }
+    // Puts a CASE of `n` arms, which stands at `index`, and its table of branches. Closes the arms and the CASE.
+    fn choose(&mut self, index: u16, n: u16)
+        requires fits { index < 65535 }
+        requires room { length self.old.code + n < code_room }
+        ensures { self.new ≡ record {
+          code = CASE (index + 1) n ∷ table_of n self.old.todo
+              ++ self.old.code;
+          todo = below (without n self.old.todo);
+        } }
     {
         self.branches(n);
-        self.put(Instr::new(Op::Case, place + 1, n));
+        self.put(Instr::new(Op::Case, index + 1, n));
         self.disarm(n);
         self.leave();
     }
 
     // Puts the code of one item in front of the code that follows it.
     fn apply(&mut self, x: Placed)
-        requires fits { x.place < 65535 }
-        requires aimed { length self.old.todo < 131072 }
-        requires room { length self.old.code + length (emits x.item x.place x.after x.start self.old.todo) ≤ 16384 }
+        requires fits { x.index < 65535 }
+        requires aimed { length self.old.todo < most_items }
+        requires room { length self.old.code + length (emits x.item x.index x.after x.start self.old.todo) ≤ code_room }
         ensures done { self.new ≡ behind x self.old }
         ensures len { length self.new.todo ≤ length self.old.todo + 1 }
     {
@@ -122,20 +128,20 @@ impl Backward {
             Item::If | Item::While | Item::Until => self.leave(),
             Item::Then => {
                 self.leave();
-                self.begin(x.place, top.no);
+                self.begin(x.index, top.no);
             }
             Item::Else => {
                 self.put(Instr::new(Op::Br, top.no, 0));
                 self.leave();
                 self.begin(0, x.after);
             }
-            Item::Fi => self.begin(0, x.place),
+            Item::Fi => self.begin(0, x.index),
             Item::Loop => {
                 self.put(Instr::new(Op::Br, x.start, 0));
                 self.begin(0, x.after);
             }
             Item::Do => {}
-            Item::Done => self.begin(x.place, x.start),
+            Item::Done => self.begin(x.index, x.start),
             Item::For(c) => {
                 self.put(Instr::new(Op::For, c, top.no));
                 self.leave();
@@ -144,18 +150,18 @@ impl Backward {
                 self.put(Instr::new(Op::Next, c, x.start));
                 self.begin(0, x.after);
             }
-            Item::Case(n) => self.choose(x.place, n),
-            Item::Arm => self.begin(top.yes, x.place),
+            Item::Case(n) => self.choose(x.index, n),
+            Item::Arm => self.begin(top.yes, x.index),
             Item::Out => self.put(Instr::new(Op::Br, top.yes, 0)),
-            Item::Esac => self.begin(x.place, 0),
+            Item::Esac => self.begin(x.index, 0),
         }
     }
 
     // Makes the code of the placed items, and takes them all out of the list.
-    pub(crate) fn resolve(&mut self, rest: &mut Reserved<Placed, ITEMS>)
+    pub(crate) fn resolve(&mut self, rest: &mut Reserved<Placed, MOST_ITEMS>)
         requires low { Low rest.old }
-        requires few { length rest.old ≤ 131072 }
-        requires room { length (back rest.old last).code ≤ 16384 }
+        requires few { length rest.old ≤ most_items }
+        requires room { length (back rest.old last).code ≤ code_room }
         ensures { self.new ≡ back rest.old last }
     {
         self.todo.clear();

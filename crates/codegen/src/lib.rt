@@ -1,4 +1,4 @@
-// Code from the typed list, in two passes: forward for the places, backward for the instructions.
+// Code from the typed list, in two passes: forward for the indices, backward for the instructions.
 #![tactic(auto)]
 
 mod backward;
@@ -6,4 +6,4 @@ pub mod emitter;
 mod forward;
 pub mod laws;
 mod measure;
-pub mod place;
+pub mod placed;

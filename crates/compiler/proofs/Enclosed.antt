@@ -7,11 +7,11 @@ use Rattle.ir.specs.Trees.{Op, add, sub, mul, div, rem, ladd, lsub, lmul, ldiv, 
 use Rattle.codegen.specs.Code.{end_e, end_l, end_c, end_s, end_b, end_a, table_end, table, code_e, code_l, code_c, code_s, code_b, code_a, program}
 use Rattle.ir.specs.Lists.{op_instr, uop_instr, items}
 use Rattle.ir.specs.declared.item.Item.{Item}
-use Rattle.codegen.specs.declared.place.Placed.{Placed}
-use Rattle.codegen.specs.Items.{emits, places, back, last as final, emitted}
+use Rattle.codegen.specs.declared.placed.Placed.{Placed}
+use Rattle.codegen.specs.Items.{emits, placements, back, last as final, code_of_items}
 use Rattle.codegen.proofs.Sizes.{stands}
 use Rattle.sema.specs.Resolving.{resolve}
-use Rattle.compiler.specs.Enclosed.{Inside, Encloses, Enclosed}
+use Rattle.compiler.specs.Enclosed.{Inside, Encloses, JumpsStayInside}
 use Rattle.compiler.proofs.Exact.{tree_of}
 
 -- The ends of code lie behind its starts.
@@ -57,7 +57,7 @@ mutual
   grows_a (last b) p = omega (arith, grows_b b p)
   grows_a (arm b a) p = omega (arith, grows_b b p, grows_a a (suc (end_b b p)))
 
--- An instruction at the place p, with the code after it, in code of n.
+-- An instruction at the index p, with the code after it, in code of n.
 
 -- the first k are branches
 abbrev Branches : ℕ → List Instr → Type 0
@@ -73,7 +73,7 @@ record Goes (n p : ℕ) (i : Instr) (r : List Instr) : Type 0 where
   pub case : i.number ≡ 31 → i.a ≡ suc p
   pub branches : i.number ≡ 31 → Branches i.b r
 
--- code from the place p to the end of all
+-- code from the index p to the end of all
 abbrev Good : (n p : ℕ) → List Instr → Type 0
 Good n p [] = p ≡ n
 Good n p (i ∷ is) = Goes n p i is × Good n (suc p) is
@@ -278,12 +278,12 @@ ending : (xs : List Placed) → (front : List Instr) × ((back xs final).code �
 ending [] = ([], refl)
 ending (x ∷ xs) =
     let y = ending xs in
-    let is = emits x.item x.place x.after x.start (back xs final).todo in
+    let is = emits x.item x.index x.after x.start (back xs final).todo in
     (is ++ y.0, ap (λ l. is ++ l) y.1 ∙ sym (append_assoc is y.0 (HALT ∷ [])))
 
-emitted_ends : (ns : List Item) → (front : List Instr) × (emitted ns ≡ front ++ HALT ∷ [])
-unfolding emitted
-emitted_ends ns = ending (places ns 0 [])
+emitted_ends : (ns : List Item) → (front : List Instr) × (code_of_items ns ≡ front ++ HALT ∷ [])
+unfolding code_of_items
+emitted_ends ns = ending (placements ns 0 [])
 
 halts : (b : Body) → (front : List Instr) × (program b ≡ front ++ HALT ∷ [])
 halts b = let e = emitted_ends (items b) in (e.0, sym (stands.code b) ∙ e.1)
@@ -309,7 +309,7 @@ encloses b =
       halts = halts b;
     }
 
-pub enclosed : Enclosed
+pub enclosed : JumpsStayInside
 enclosed =
     record {
       trees = encloses;

@@ -6,7 +6,7 @@ use Rattle.base.specs.Heights.{height}
 use Rattle.ir.specs.Trees.{Body}
 use Rattle.codegen.specs.Code.{program, depth}
 use Rattle.sema.specs.Resolving.{resolve}
-use Rattle.compiler.specs.Heights.{stacked, Deepest, Deep}
+use Rattle.compiler.specs.Heights.{height_after, Deepest, Deep}
 use Rattle.compiler.proofs.Exact.{tree_of}
 
 above : (h : ℕ) (is : List Instr) → h ≤ peak h is
@@ -14,14 +14,14 @@ unfolding peak
 above h [] = omega arith
 above h (i ∷ is) = omega arith
 
-within : (h : ℕ) (front rest : List Instr) → stacked h front ≤ peak h (front ++ rest)
+within : (h : ℕ) (front rest : List Instr) → height_after h front ≤ peak h (front ++ rest)
 unfolding peak
 within h [] rest = above h rest
 within h (i ∷ front) rest = omega (arith, within (height i h) front rest)
 
 -- some part of the code from its front stacks as many words as the whole
 abbrev Reached : ℕ → List Instr → ℕ → Type 0
-Reached h is n = (front : List Instr) × (rest : List Instr) × (is ≡ front ++ rest) × (stacked h front ≡ n)
+Reached h is n = (front : List Instr) × (rest : List Instr) × (is ≡ front ++ rest) × (height_after h front ≡ n)
 
 either : (m n : ℕ) → (max m n ≡ m) ⊎ (max m n ≡ n)
 either m n = grind arith
@@ -39,7 +39,7 @@ deepest : (b : Body) → Deepest (program b) (depth b)
 unfolding depth
 deepest b =
     record {
-      most = λ front rest e. subst (λ is. stacked 0 front ≤ peak 0 is) (sym e) (within 0 front rest);
+      most = λ front rest e. subst (λ is. height_after 0 front ≤ peak 0 is) (sym e) (within 0 front rest);
       some = reached 0 (program b);
     }
 

@@ -4,19 +4,20 @@ use Rattle.base.specs.declared.instr.Instr.{Instr}
 use Rattle.base.specs.Heights.{height}
 use Rattle.ir.specs.Trees.{Body}
 use Rattle.codegen.specs.Code.{program, depth}
-use Rattle.compiler.specs.Compile.{Code, compiled}
+use Rattle.compiler.specs.Compile.{Code, compilation}
 
--- the words stacked after these instructions, of an empty stack, by what each takes and leaves
-abbrev pub stacked : ℕ → List Instr → ℕ
-stacked h [] = h
-stacked h (i ∷ is) = stacked (height i h) is
+-- The number of words stacked after these instructions, if h are stacked before them, counted by what each takes and
+-- leaves.
+abbrev pub height_after : ℕ → List Instr → ℕ
+height_after h [] = h
+height_after h (i ∷ is) = height_after (height i h) is
 
--- nowhere in the code are there more words than d, and somewhere there are as many
+-- At no point of the code are more than d words stacked, and at some point exactly d are.
 pub record Deepest (code : List Instr) (d : ℕ) : Type 0 where
-  pub most : (front rest : List Instr) → code ≡ front ++ rest → stacked 0 front ≤ d
-  pub some : (front : List Instr) × (rest : List Instr) × (code ≡ front ++ rest) × (stacked 0 front ≡ d)
+  pub most : (front rest : List Instr) → code ≡ front ++ rest → height_after 0 front ≤ d
+  pub some : (front : List Instr) × (rest : List Instr) × (code ≡ front ++ rest) × (height_after 0 front ≡ d)
 
--- the code of each tree, and so of each source that is accepted
+-- This holds of the code and the depth of each tree, and so of each source that is accepted.
 pub record Deep : Type 0 where
   pub trees : (b : Body) → Deepest (program b) (depth b)
-  pub sources : (source : List ℕ) (room : ℕ) (c : Code) → compiled source room ≡ Ok c → Deepest c.instrs c.depth
+  pub sources : (source : List ℕ) (room : ℕ) (c : Code) → compilation source room ≡ Ok c → Deepest c.instrs c.depth

@@ -1,7 +1,7 @@
 // The memory that sources are compiled in. It is made once and used for any number of sources, from which it
 // borrows nothing.
 ghost use Rattle.std.specs.Prelude.{◌≡◌, [], map, IfOk};
-ghost use Rattle.parser.specs.Entries.{entries as entries_of};
+ghost use Rattle.parser.specs.Nodes.{node_list as nodes_in};
 ghost use Rattle.sema.specs.Entered.{row_as};
 ghost use Rattle.sema.specs.Works.{holds, nodes_of, nothing};
 ghost use Rattle.compiler.specs.Compile.{Compiles};
@@ -64,7 +64,7 @@ impl Compiler {
     /// Answers the syntax list of the source that was compiled last. It is empty if the text or the grammar refused
     /// it.
     pub fn nodes(&self) -> &[Node]
-        ensures { entries_of result.now ≡ nodes_of self.now.workspace }
+        ensures { nodes_in result.now ≡ nodes_of self.now.workspace }
     {
         self.workspace.nodes()
     }

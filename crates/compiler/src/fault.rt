@@ -19,7 +19,7 @@ pub enum CompileFault {
     TooLong(usize),
 }
 
-// By hand: a derive gives no contract.
+// Written by hand, since a derive gives no contract.
 impl From<CheckFault> for CompileFault {
     ghost from_gives = { λ e r. r ≡ Check e };
 

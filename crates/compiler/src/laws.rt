@@ -1,5 +1,5 @@
 // The laws of what a source is compiled to.
-ghost use Rattle.compiler.specs.Enclosed.{Enclosed};
+ghost use Rattle.compiler.specs.Enclosed.{JumpsStayInside};
 ghost use Rattle.compiler.specs.Examples.{Examples};
 ghost use Rattle.compiler.specs.Heights.{Deep};
 ghost use Rattle.compiler.specs.Theorems.{CompilesExactly};
@@ -15,10 +15,10 @@ pub fn depth_is_the_largest()
     ensures { Deep }
 {}
 
-/// States that every place to which the code of a source goes is the index of one of its instructions, and that the
+/// States that every index to which the code of a source goes is that of one of its instructions, and that the
 /// last of these is HALT.
 pub fn code_is_enclosed()
-    ensures { Enclosed }
+    ensures { JumpsStayInside }
 {}
 
 /// States the examples: sources with their code or their refusal, images and numbers, as the definitions compute

@@ -1,6 +1,6 @@
 -- The code of each part of a source lands where the part's meaning says.
 use Rattle.std.proofs.Common.{◌≡◌, ℕ, zero, suc, ◌+◌, ◌<◌, true, false, cond, List, ◌∷◌, length, Ok, refl, subst, arith}
-use Rattle.arith.specs.Integers.{subscript, chosen}
+use Rattle.arith.specs.Integers.{subscript, case_index}
 use Rattle.base.specs.declared.instr.Instr.{Instr}
 use Rattle.ir.specs.Trees.{Expr, lit, var, pick, bin, un, Clause, test, and, Cond, only, or, Stmt, assign, fill, deposit, deposit_at, when, either, while, repeat, for, case, Body, end, then, Arms, last, arm, size}
 use Rattle.codegen.specs.Code.{end_e, end_l, end_c, table_end, end_s, end_b, end_a, code_e, code_l, code_c, table, code_s, code_b, code_a}
@@ -137,7 +137,7 @@ module _ (P : List Instr) (d n : ℕ) where
     stmt (case e a) k p st r h pl =
         let pc = rest_e e _ pl in
         lands_bind P d n (expr e k p st _ h.0 pl)
-        (λ x. lands_bind_if P d n {g = λ i. at (suc (end_e e p) + i) st} (λ i. i < size a) (case_lands P d n _ (size a) x st pc) (λ σ ws i q. chosen_below x (size a) i (says_answers (chosen x (size a)) σ ws i q))
+        (λ x. lands_bind_if P d n {g = λ i. at (suc (end_e e p) + i) st} (λ i. i < size a) (case_lands P d n _ (size a) x st pc) (λ σ ws i q. chosen_below x (size a) i (says_answers (case_index x (size a)) σ ws i q))
         (λ i l. branch a i k _ _ _ st _ _ l h.1 (next P d n pc) (rest_t a _ _ (next P d n pc))))
 
     pub body : (b : Body) (k p : ℕ) (st : List ℕ) (r : List Instr) → Within b n → Placed P d n p (length st) (code_b b p r) → Lands P d n 0 k (at p st) (exec b k) (λ _. at (end_b b p) st)

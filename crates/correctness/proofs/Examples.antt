@@ -1,22 +1,22 @@
 -- The examples, by computing.
 use Rattle.std.proofs.Common.{ℕ, [], ◌∷◌, refl, arith}
-use Rattle.arith.specs.Integers.{int, fitted, sum, difference, product, quotient, remainder, negation, within, subscript, chosen, turns}
+use Rattle.arith.specs.Integers.{int, integer_word, sum, difference, product, quotient, remainder, negation, within, subscript, case_index, turns}
 use Rattle.arith.specs.Logicals.{odd}
-use Rattle.arith.specs.Relations.{compared}
-use Rattle.arith.specs.Fields.{deposited}
+use Rattle.arith.specs.Relations.{comparison}
+use Rattle.arith.specs.Fields.{with_field}
 use Rattle.ir.specs.Instrs.{peak}
 use Rattle.codegen.specs.Code.{program, depth}
-use Rattle.machine.specs.Table.{decoded}
+use Rattle.machine.specs.Table.{op_of_number}
 use Rattle.machine.specs.Machine.{goes, step, run}
 use Rattle.semantics.specs.Meaning.{Within}
 use Rattle.semantics.specs.Examples.{filling}
-use Rattle.machine.specs.Calls.{played}
+use Rattle.machine.specs.Calls.{state_after_calls}
 use Rattle.correctness.specs.Agreement.{after}
 use Rattle.correctness.specs.Examples.{Examples}
 use Rattle.correctness.proofs.Whole.{agreement}
 
 all : ℕ
-unfolding int fitted sum difference product quotient remainder negation within subscript chosen turns odd compared deposited peak program depth decoded goes step run after played
+unfolding int integer_word sum difference product quotient remainder negation within subscript case_index turns odd comparison with_field peak program depth op_of_number goes step run after state_after_calls
 all = 0
 
 named : Within filling 5

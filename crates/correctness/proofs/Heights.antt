@@ -10,13 +10,13 @@ use Rattle.base.specs.Ops.{ops}
 use Rattle.ir.specs.Instrs.{ins}
 use Rattle.base.specs.Heights.{height, height_by}
 use Rattle.base.proofs.Tables.{height_op}
-use Rattle.arith.specs.Integers.{sum, subscript, chosen, turns}
+use Rattle.arith.specs.Integers.{sum, subscript, case_index, turns}
 use Rattle.machine.specs.declared.ending.Ending.{Ending}
 use Rattle.machine.specs.declared.ending.Ending.TheVariants.{TooHigh, Missing, BadOperand, Outside}
-use Rattle.machine.specs.declared.vm.Move.{Move}
-use Rattle.machine.specs.declared.vm.Move.TheVariants.{On, Push, Write}
-use Rattle.machine.specs.Table.{known, decoded, then, fine, wants, stopped, cell_of, push, act, row, moved}
-use Rattle.machine.specs.Machine.{State, made, fetched, goes, counted, settled, stepped, step}
+use Rattle.machine.specs.declared.registers.Move.{Move}
+use Rattle.machine.specs.declared.registers.Move.TheVariants.{On, Push, Write}
+use Rattle.machine.specs.Table.{op_or_ending, op_of_number, then, fine, wants, or_ending, cell_of, push, act, row, move_at}
+use Rattle.machine.specs.Machine.{State, after_move, move_of, goes, one_step_more, state_or_ending, unless_ended, step}
 use Rattle.correctness.specs.Heights.{instruction_at, Heights}
 
 -- the height after a move
@@ -48,8 +48,8 @@ fits_act Lit a b p x y h σ w = omega (arith, height_op Lit a h)
 fits_act Load a b p x y h σ w = moves_push (Fits Load a b h) 0 _ (λ _. omega (arith, height_op Load a h))
 fits_act Stor a b p x y h σ w = omega (arith, height_op Stor a h)
 fits_act Ldx a b p x y h σ w = moves_push (Fits Ldx a b h) 1 _ (λ _. omega (arith, height_op Ldx a h))
-fits_act Stx a b p x y h σ w = moves_then (Fits Stx a b h) (stopped (subscript y b)) (λ i. Ok (Write 2 (a + i) x (p + 1))) (λ _. omega (arith, height_op Stx a h))
-fits_act Chk a b p x y h σ w = moves_then (Fits Chk a b h) (stopped (subscript x a)) (λ i. Ok (On 0 (p + 1))) (λ _. omega (arith, height_op Chk a h))
+fits_act Stx a b p x y h σ w = moves_then (Fits Stx a b h) (or_ending (subscript y b)) (λ i. Ok (Write 2 (a + i) x (p + 1))) (λ _. omega (arith, height_op Stx a h))
+fits_act Chk a b p x y h σ w = moves_then (Fits Chk a b h) (or_ending (subscript x a)) (λ i. Ok (On 0 (p + 1))) (λ _. omega (arith, height_op Chk a h))
 fits_act Dup a b p x y h σ w = omega (arith, height_op Dup a h)
 fits_act Drop a b p x y h σ w = omega (arith, height_op Drop a h)
 fits_act Add a b p x y h σ w = moves_push (Fits Add a b h) 2 _ (λ _. omega (arith, height_op Add a h))
@@ -74,11 +74,11 @@ fits_act Dep a b p x y h σ w = omega (arith, height_op Dep a h)
 fits_act Shf a b p x y h σ w = omega (arith, height_op Shf a h)
 fits_act Br a b p x y h σ w = omega (arith, height_op Br a h)
 fits_act Bre a b p x y h σ w = omega (arith, height_op Bre a h)
-fits_act Case a b p x y h σ w = moves_then (Fits Case a b h) (stopped (chosen x b)) (λ i. Ok (On 1 (a + i))) (λ _. omega (arith, height_op Case a h))
+fits_act Case a b p x y h σ w = moves_then (Fits Case a b h) (or_ending (case_index x b)) (λ i. Ok (On 1 (a + i))) (λ _. omega (arith, height_op Case a h))
 fits_act For a b p x y h σ w = moves_then (Fits For a b h) (cell_of σ a) (λ v. Ok (On 0 (cond (turns v y x) (p + 1) b))) (λ _. omega (arith, height_op For a h))
 fits_act Next a b p x y h σ w =
-    moves_then (Fits Next a b h) (cell_of σ a) (λ v. then (stopped (sum v y)) (λ u. Ok (Write 0 a u b)))
-    (λ v. moves_then (Fits Next a b h) (stopped (sum v y)) (λ u. Ok (Write 0 a u b)) (λ _. omega (arith, height_op Next a h)))
+    moves_then (Fits Next a b h) (cell_of σ a) (λ v. then (or_ending (sum v y)) (λ u. Ok (Write 0 a u b)))
+    (λ v. moves_then (Fits Next a b h) (or_ending (sum v y)) (λ u. Ok (Write 0 a u b)) (λ _. omega (arith, height_op Next a h)))
 
 moves_held : (Q : Move → Type 0) (f l : Bool) (r : Result Move Ending) → (l ≡ true → Moves Q r) → Moves Q (then (cond f (cond l (Ok tt) (Err Missing)) (Err BadOperand)) (λ (_ : Unit {0}). r))
 moves_held Q false l r h = tt
@@ -94,48 +94,48 @@ fits_row o a b p h st σ =
 abbrev Lifts : Instr → ℕ → Move → Type 0
 Lifts i h m = lifts m h ≡ height i h
 
-lifts_known : (i : Instr) (p h : ℕ) (st σ : List ℕ) (v : Option Op) → slice_get ops i.number ≡ v → Moves (Lifts i h) (then (known v) (λ o. row o i.a i.b p h st σ))
+lifts_known : (i : Instr) (p h : ℕ) (st σ : List ℕ) (v : Option Op) → slice_get ops i.number ≡ v → Moves (Lifts i h) (then (op_or_ending v) (λ o. row o i.a i.b p h st σ))
 lifts_known i p h st σ (Some o) e = subst (λ r. Moves (λ m. lifts m h ≡ height_by r i.a h) (row o i.a i.b p h st σ)) (sym e) (fits_row o i.a i.b p h st σ)
 lifts_known i p h st σ None e = tt
 
-lifts_fetched : (b : Bool) (i : Instr) (p h : ℕ) (st σ : List ℕ) → Moves (Lifts i h) (cond b (moved i p h st σ) (Err Outside))
-unfolding decoded
+lifts_fetched : (b : Bool) (i : Instr) (p h : ℕ) (st σ : List ℕ) → Moves (Lifts i h) (cond b (move_at i p h st σ) (Err Outside))
+unfolding op_of_number
 lifts_fetched true i p h st σ = lifts_known i p h st σ (slice_get ops i.number) refl
 lifts_fetched false i p h st σ = tt
 
 -- a state that is reached has so many words stacked
 abbrev Reaches : ℕ → Result State Ending → Type 0
-Reaches k (Ok t) = t.vm.height ≡ k
+Reaches k (Ok t) = t.registers.height ≡ k
 Reaches k (Err e) = Unit {0}
 
-reaches_cond : (k : ℕ) (b : Bool) (t : State) (e : Ending) → t.vm.height ≡ k → Reaches k (cond b (Ok t) (Err e))
+reaches_cond : (k : ℕ) (b : Bool) (t : State) (e : Ending) → t.registers.height ≡ k → Reaches k (cond b (Ok t) (Err e))
 reaches_cond k true t e h = h
 reaches_cond k false t e h = tt
 
-reaches_made : (d : ℕ) (m : Move) (s : State) → Reaches (lifts m s.vm.height) (made d m s)
+reaches_made : (d : ℕ) (m : Move) (s : State) → Reaches (lifts m s.registers.height) (after_move d m s)
 reaches_made d (On k q) s = refl
-reaches_made d (Push k w) s = reaches_cond _ (ltb (s.vm.height - k) d) _ TooHigh refl
+reaches_made d (Push k w) s = reaches_cond _ (ltb (s.registers.height - k) d) _ TooHigh refl
 reaches_made d (Write k c w q) s = reaches_cond _ (ltb c (length s.cells)) _ Outside refl
 
-reaches_moved : (d : ℕ) (s : State) (i : Instr) (r : Result Move Ending) → Moves (Lifts i s.vm.height) r → Reaches (height i s.vm.height) (then r (λ m. made d m s))
-reaches_moved d s i (Ok m) h = subst (λ k. Reaches k (made d m s)) h (reaches_made d m s)
+reaches_moved : (d : ℕ) (s : State) (i : Instr) (r : Result Move Ending) → Moves (Lifts i s.registers.height) r → Reaches (height i s.registers.height) (then r (λ m. after_move d m s))
+reaches_moved d s i (Ok m) h = subst (λ k. Reaches k (after_move d m s)) h (reaches_made d m s)
 reaches_moved d s i (Err e) h = tt
 
-reaches_goes : (P : List Instr) (d : ℕ) (s : State) → Reaches (height (instruction_at P s) s.vm.height) (goes P d s)
+reaches_goes : (P : List Instr) (d : ℕ) (s : State) → Reaches (height (instruction_at P s) s.registers.height) (goes P d s)
 unfolding goes
-reaches_goes P d s = reaches_moved d s (instruction_at P s) (fetched P s) (lifts_fetched (ltb s.vm.place (length P)) (instruction_at P s) s.vm.place s.vm.height s.stack s.cells)
+reaches_goes P d s = reaches_moved d s (instruction_at P s) (move_of P s) (lifts_fetched (ltb s.registers.pc (length P)) (instruction_at P s) s.registers.pc s.registers.height s.stack s.cells)
 
 some≢none : (e : Ending) → Some e ≡ None → ⊥
 some≢none e h = true≢false (ap is_some h)
 
-height_settled : (k : ℕ) (s : State) (r : Result State Ending) → Reaches k r → (settled r s).vm.ending ≡ None → (settled r s).vm.height ≡ k
+height_settled : (k : ℕ) (s : State) (r : Result State Ending) → Reaches k r → (state_or_ending r s).registers.ending ≡ None → (state_or_ending r s).registers.height ≡ k
 height_settled k s (Ok t) h q = h
 height_settled k s (Err e) h q = absurd (some≢none e q)
 
-height_stepped : (P : List Instr) (d : ℕ) (s : State) (o : Option Ending) → s.vm.ending ≡ o → (stepped P d s o).vm.ending ≡ None → (stepped P d s o).vm.height ≡ height (instruction_at P s) s.vm.height
-height_stepped P d s None e q = height_settled _ (counted s) (goes P d (counted s)) (reaches_goes P d (counted s)) q
+height_stepped : (P : List Instr) (d : ℕ) (s : State) (o : Option Ending) → s.registers.ending ≡ o → (unless_ended P d s o).registers.ending ≡ None → (unless_ended P d s o).registers.height ≡ height (instruction_at P s) s.registers.height
+height_stepped P d s None e q = height_settled _ (one_step_more s) (goes P d (one_step_more s)) (reaches_goes P d (one_step_more s)) q
 height_stepped P d s (Some x) e q = absurd (some≢none x (sym e ∙ q))
 
 pub heights : Heights
 unfolding step
-heights P d s q = height_stepped P d s s.vm.ending refl q
+heights P d s q = height_stepped P d s s.registers.ending refl q

@@ -3,11 +3,11 @@ use Rattle.std.proofs.Common.{ℕ, suc, cond, ltb, List, [], ◌∷◌, length, 
 use Rattle.base.specs.declared.instr.Instr.{Instr}
 use Rattle.machine.specs.declared.ending.Ending.{Ending}
 use Rattle.machine.specs.declared.ending.Ending.TheVariants.{Stopped, TooHigh, Outside}
-use Rattle.machine.specs.declared.vm.Move.{Move}
-use Rattle.machine.specs.declared.vm.Move.TheVariants.{On, Push, Write as Puts}
-use Rattle.machine.specs.Table.{decoded, then, readied, act}
+use Rattle.machine.specs.declared.registers.Move.{Move}
+use Rattle.machine.specs.declared.registers.Move.TheVariants.{On, Push, Write as Puts}
+use Rattle.machine.specs.Table.{op_of_number, then, readiness, act}
 use Rattle.machine.specs.Stacks.{hd, tl, off}
-use Rattle.semantics.specs.Effects.{Store, Write, put, Did, did, fails}
+use Rattle.semantics.specs.Effects.{Store, Write, put, ActAnswer, did, fails}
 
 -- a place in the code, and the stack
 pub data Pos : Type 0 where
@@ -30,7 +30,7 @@ lay d p st σ (Err e) = halt e
 
 -- what an instruction does
 abbrev pub acting : Instr → ℕ → List ℕ → Store → Result Move Ending
-acting i p st σ = then (decoded i.number) (λ o. then (readied o i.a i.b (length st)) (λ _. act o i.a i.b p (hd st) (hd (tl st)) σ))
+acting i p st σ = then (op_of_number i.number) (λ o. then (readiness o i.a i.b (length st)) (λ _. act o i.a i.b p (hd st) (hd (tl st)) σ))
 
 abbrev pub blank : Instr
 blank = record { number = 0; a = 0; b = 0 }
@@ -42,6 +42,6 @@ unfoldable pub move : List Instr → ℕ → Pos → Store → Way
 move P d (at p st) σ = lay d p st σ (fetched P p st σ)
 
 -- a basic act that leads to g of its answer
-abbrev pub leads : {A : Type 0} → Did A → (A → Pos) → Way
+abbrev pub leads : {A : Type 0} → ActAnswer A → (A → Pos) → Way
 leads (did ws a) g = on ws (g a)
 leads (fails e) g = halt (Stopped e)

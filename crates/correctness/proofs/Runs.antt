@@ -4,7 +4,7 @@ use Rattle.arith.specs.declared.stop.Stop.{Stop}
 use Rattle.base.specs.declared.instr.Instr.{Instr}
 use Rattle.base.specs.Heights.{height}
 use Rattle.machine.specs.declared.ending.Ending.TheVariants.{Stopped}
-use Rattle.semantics.specs.Effects.{Store, Write, leave, Effect, effect, cut, M, before, onward, bind, ret, meets, Did, did, fails, Act, effect_of, prim, loop, until}
+use Rattle.semantics.specs.Effects.{Store, Write, leave, Effect, effect, cut, M, before, onward, bind, ret, meets, ActAnswer, did, fails, Act, effect_of, prim, loop, until}
 use Rattle.semantics.proofs.Stores.{leave_append, length_leave}
 use Rattle.correctness.proofs.Moves.{Pos, at, on, halt, lay, acting, blank, move, leads}
 
@@ -92,7 +92,7 @@ module _ (P : List Instr) (d n : ℕ) where
   unfolding move
   acts st (place l e t r) σ = rw (l, e)
 
-  did_lands : {A : Type 0} {k : ℕ} {c : Pos} {σ : Store} {g : A → Pos} (y : Did A) → move P d c σ ≡ leads y g → Got 1 k c σ g (effect_of y)
+  did_lands : {A : Type 0} {k : ℕ} {c : Pos} {σ : Store} {g : A → Pos} (y : ActAnswer A) → move P d c σ ≡ leads y g → Got 1 k c σ g (effect_of y)
   did_lands (did ws a) e = arrives (once e) (omega arith)
   did_lands (fails x) e = stops stay e
 

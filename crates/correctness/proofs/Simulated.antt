@@ -4,24 +4,24 @@ use Rattle.std.proofs.lemmas.Bool.{ltb-true, leb-true}
 use Rattle.base.specs.declared.instr.Instr.{Instr}
 use Rattle.machine.specs.declared.ending.Ending.{Ending}
 use Rattle.machine.specs.declared.ending.Ending.TheVariants.{TooHigh, Outside, Missing, BadOperand}
-use Rattle.machine.specs.declared.vm.Move.{Move}
-use Rattle.machine.specs.declared.vm.Move.TheVariants.{On, Push, Write as Puts}
+use Rattle.machine.specs.declared.registers.Move.{Move}
+use Rattle.machine.specs.declared.registers.Move.TheVariants.{On, Push, Write as Puts}
 use Rattle.base.specs.declared.op.Op.{Op}
 use Rattle.base.specs.declared.op.Op.TheVariants.{Halt, Lit, Load, Stor, Ldx, Stx, Chk, Dup, Drop, Add, Sub, Mul, Div, Rem, Neg, Ladd, Lsub, Lmul, Ldiv, Lrem, Cmp, Lcmp, And, Or, Xor, Not, Fld, Dep, Shf, Br, Bre, Case, For, Next}
-use Rattle.machine.specs.Table.{decoded, then, fine, wants, readied, act, row, moved}
-use Rattle.machine.specs.Machine.{State, made, goes}
-use Rattle.machine.specs.Stacks.{stack_of, hd, tl, off, stacked}
+use Rattle.machine.specs.Table.{op_of_number, then, fine, wants, readiness, act, row, move_at}
+use Rattle.machine.specs.Machine.{State, after_move, goes}
+use Rattle.machine.specs.Stacks.{stack_of, hd, tl, off, stack_of_state}
 use Rattle.machine.proofs.Views.{length_stack_of, top_is, next_is, off_stack_of, push_stack_of}
 use Rattle.semantics.specs.Effects.{Write, leave}
 use Rattle.correctness.proofs.Moves.{Pos, at, Way, on, halt, laid, lay, acting, blank, move}
 
 abbrev pub view : State → Pos
-view s = at s.vm.place (stacked s)
+view s = at s.registers.pc (stack_of_state s)
 
 -- what the machine does is what the list shows
 pub data Tells (s : State) : Way → Result State Ending → Type 0 where
   tells_on : {ws : List Write} {c : Pos} {t : State} →
-      view t ≡ c → t.cells ≡ leave ws s.cells → t.vm.writes ≡ s.vm.writes + length ws → t.vm.ending ≡ s.vm.ending → length t.stack ≡ length s.stack → Tells s (on ws c) (Ok t)
+      view t ≡ c → t.cells ≡ leave ws s.cells → t.registers.writes ≡ s.registers.writes + length ws → t.registers.ending ≡ s.registers.ending → length t.stack ≡ length s.stack → Tells s (on ws c) (Ok t)
   tells_halt : {e : Ending} → Tells s (halt e) (Err e)
 
 length_off : (k h : ℕ) (st : List ℕ) → length (off k (stack_of h st)) ≡ h - k
@@ -31,19 +31,19 @@ tells_cond : (s : State) (b : Bool) (v : Way) (t : State) (e : Ending) → (b �
 tells_cond s true v t e h = h refl
 tells_cond s false v t e h = tells_halt
 
-tells_made : (d : ℕ) (m : Move) (s : State) → d ≤ length s.stack → Tells s (laid d m s.vm.place (stacked s) s.cells) (made d m s)
-tells_made d (On k q) s l = tells_on (ap (at q) (sym (off_stack_of k s.vm.height s.stack))) refl (omega arith) refl refl
+tells_made : (d : ℕ) (m : Move) (s : State) → d ≤ length s.stack → Tells s (laid d m s.registers.pc (stack_of_state s) s.cells) (after_move d m s)
+tells_made d (On k q) s l = tells_on (ap (at q) (sym (off_stack_of k s.registers.height s.stack))) refl (omega arith) refl refl
 tells_made d (Push k w) s l =
-    let h = s.vm.height - k in
-    let f : s.vm.place + 1 ≡ suc s.vm.place = omega arith in
-    rw (length_off k s.vm.height s.stack)
+    let h = s.registers.height - k in
+    let f : s.registers.pc + 1 ≡ suc s.registers.pc = omega arith in
+    rw (length_off k s.registers.height s.stack)
     (tells_cond s (ltb h d) _ _ TooHigh
-    (λ e. tells_on (rw (f, push_stack_of h w s.stack (omega (arith, ltb-true h d e)), off_stack_of k s.vm.height s.stack)) refl (omega arith) refl (length-set s.stack h w)))
+    (λ e. tells_on (rw (f, push_stack_of h w s.stack (omega (arith, ltb-true h d e)), off_stack_of k s.registers.height s.stack)) refl (omega arith) refl (length-set s.stack h w)))
 tells_made d (Puts k c w q) s l =
     tells_cond s (ltb c (length s.cells)) _ _ Outside
-    (λ e. tells_on (ap (at q) (sym (off_stack_of k s.vm.height s.stack))) refl (omega arith) refl refl)
+    (λ e. tells_on (ap (at q) (sym (off_stack_of k s.registers.height s.stack))) refl (omega arith) refl refl)
 
-tells_then : (d : ℕ) (s : State) (r : Result Move Ending) → d ≤ length s.stack → Tells s (lay d s.vm.place (stacked s) s.cells r) (then r (λ m. made d m s))
+tells_then : (d : ℕ) (s : State) (r : Result Move Ending) → d ≤ length s.stack → Tells s (lay d s.registers.pc (stack_of_state s) s.cells r) (then r (λ m. after_move d m s))
 tells_then d s (Ok m) l = tells_made d m s l
 tells_then d s (Err e) l = tells_halt
 
@@ -89,7 +89,7 @@ blind For a b p h st σ l = both For a b p h st σ l
 blind Next a b p h st σ l = both Next a b p h st σ l
 
 same_row : (o : Op) (a b p h : ℕ) (st σ : List ℕ) →
-    row o a b p h st σ ≡ then (readied o a b (length (stack_of h st))) (λ _. act o a b p (hd (stack_of h st)) (hd (tl (stack_of h st))) σ)
+    row o a b p h st σ ≡ then (readiness o a b (length (stack_of h st))) (λ _. act o a b p (hd (stack_of h st)) (hd (tl (stack_of h st))) σ)
 same_row o a b p h st σ = rw (length_stack_of h st) (of (fine o a b) (leb (wants o a) h) refl)
   where
     of : (f w : Bool) → leb (wants o a) h ≡ w →
@@ -103,11 +103,11 @@ same_then : (r : Result Op Ending) (f g : Op → Result Move Ending) → ((o : O
 same_then (Ok o) f g h = h o
 same_then (Err e) f g h = refl
 
-same_moved : (i : Instr) (p h : ℕ) (st σ : List ℕ) → moved i p h st σ ≡ acting i p (stack_of h st) σ
-same_moved i p h st σ = same_then (decoded i.number) _ _ (λ o. same_row o i.a i.b p h st σ)
+same_moved : (i : Instr) (p h : ℕ) (st σ : List ℕ) → move_at i p h st σ ≡ acting i p (stack_of h st) σ
+same_moved i p h st σ = same_then (op_of_number i.number) _ _ (λ o. same_row o i.a i.b p h st σ)
 
 pub tells : (P : List Instr) (d : ℕ) (s : State) → d ≤ length s.stack → Tells s (move P d (view s) s.cells) (goes P d s)
 unfolding move goes
 tells P d s l =
-    rw (sym (same_moved (get_or P s.vm.place blank) s.vm.place s.vm.height s.stack s.cells))
-    (tells_then d s (cond (ltb s.vm.place (length P)) (moved (get_or P s.vm.place blank) s.vm.place s.vm.height s.stack s.cells) (Err Outside)) l)
+    rw (sym (same_moved (get_or P s.registers.pc blank) s.registers.pc s.registers.height s.stack s.cells))
+    (tells_then d s (cond (ltb s.registers.pc (length P)) (move_at (get_or P s.registers.pc blank) s.registers.pc s.registers.height s.stack s.cells) (Err Outside)) l)

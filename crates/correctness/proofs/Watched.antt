@@ -2,7 +2,7 @@
 use Rattle.std.proofs.Common.{◌≡◌, ℕ, zero, suc, ◌+◌, ◌≤◌, List, [], ◌++◌, length, Some, None, Option, Result, sym, refl, ap, ◌∙◌, subst, append_assoc, suc-add, zero-add, arith, length-append}
 use Rattle.base.specs.declared.instr.Instr.{Instr}
 use Rattle.machine.specs.declared.ending.Ending.{Ending}
-use Rattle.machine.specs.Machine.{State, goes, counted, ended as EndedBy, settled, stepped, step, run}
+use Rattle.machine.specs.Machine.{State, goes, one_step_more, with_ending as EndedBy, state_or_ending, unless_ended, step, run}
 use Rattle.machine.proofs.Runs.{lawful}
 use Rattle.semantics.specs.Effects.{Store, Write, leave}
 use Rattle.semantics.proofs.Stores.{leave_append}
@@ -43,8 +43,8 @@ more_none (seen us e) = refl
 -- x shows what was seen, from a machine with the store σ and w writes on
 pub record Shows (σ : Store) (w : ℕ) (s : Seen) (x : State) : Type 0 where
   pub cells : x.cells ≡ leave (written s) σ
-  pub writes : x.vm.writes ≡ w + length (written s)
-  pub ending : x.vm.ending ≡ ended s
+  pub writes : x.registers.writes ≡ w + length (written s)
+  pub ending : x.registers.ending ≡ ended s
 
 shows_more : (σ : Store) (w : ℕ) (ws : List Write) (s : Seen) (x : State) → Shows (leave ws σ) (w + length ws) s x → Shows σ w (more_seen ws s) x
 shows_more σ w ws (seen vs e) x h = record { cells = h.cells ∙ sym (leave_append ws vs σ); writes = omega (arith, h.writes, length-append ws vs); ending = h.ending }
@@ -78,25 +78,25 @@ module _ (P : List Instr) (d n : ℕ) where
   run_front m x = let e : suc m ≡ m + 1 = omega arith in ap (λ (k : ℕ). run P d k x) e ∙ lawful.on P d m 1 x
 
   -- what the machine does next is what is seen next
-  shows_tells : (m : ℕ) (x : State) (v : Way) (r : Result State Ending) → Tells x v r → x.vm.ending ≡ None → d ≤ length x.stack →
-      ((y : State) → y.vm.ending ≡ None → d ≤ length y.stack → Shows y.cells y.vm.writes (watch m (view y) y.cells) (run P d m y)) →
-      Shows x.cells x.vm.writes (watched (watch m) v x.cells) (run P d m (settled r x))
+  shows_tells : (m : ℕ) (x : State) (v : Way) (r : Result State Ending) → Tells x v r → x.registers.ending ≡ None → d ≤ length x.stack →
+      ((y : State) → y.registers.ending ≡ None → d ≤ length y.stack → Shows y.cells y.registers.writes (watch m (view y) y.cells) (run P d m y)) →
+      Shows x.cells x.registers.writes (watched (watch m) v x.cells) (run P d m (state_or_ending r x))
   shows_tells m x v r (tells_on {ws = ws} {c = c} {t = t} a b w e s) q l f =
       let h₀ = f t (e ∙ q) (omega arith) in
-      let h₁ = subst (λ (p : Pos). Shows t.cells t.vm.writes (watch m p t.cells) (run P d m t)) a h₀ in
-      let h₂ = subst (λ (τ : Store). Shows τ t.vm.writes (watch m c τ) (run P d m t)) b h₁ in
+      let h₁ = subst (λ (p : Pos). Shows t.cells t.registers.writes (watch m p t.cells) (run P d m t)) a h₀ in
+      let h₂ = subst (λ (τ : Store). Shows τ t.registers.writes (watch m c τ) (run P d m t)) b h₁ in
       let h₃ = subst (λ (k : ℕ). Shows (leave ws x.cells) k (watch m c (leave ws x.cells)) (run P d m t)) w h₂ in
-      shows_more x.cells x.vm.writes ws (watch m c (leave ws x.cells)) (run P d m t) h₃
+      shows_more x.cells x.registers.writes ws (watch m c (leave ws x.cells)) (run P d m t) h₃
   shows_tells m x v r (tells_halt {e = e}) q l f =
       rw (lawful.ended P d m (EndedBy e x) e refl) (record { cells = refl; writes = omega arith; ending = refl })
 
-  steps_so : (x : State) → x.vm.ending ≡ None → step P d x ≡ settled (goes P d (counted x)) (counted x)
+  steps_so : (x : State) → x.registers.ending ≡ None → step P d x ≡ state_or_ending (goes P d (one_step_more x)) (one_step_more x)
   unfolding step
-  steps_so x q = ap (λ (o : Option Ending). stepped P d x o) q
+  steps_so x q = ap (λ (o : Option Ending). unless_ended P d x o) q
 
-  pub shows : (m : ℕ) (x : State) → x.vm.ending ≡ None → d ≤ length x.stack → Shows x.cells x.vm.writes (watch m (view x) x.cells) (run P d m x)
+  pub shows : (m : ℕ) (x : State) → x.registers.ending ≡ None → d ≤ length x.stack → Shows x.cells x.registers.writes (watch m (view x) x.cells) (run P d m x)
   unfolding watch run
   shows zero x q l = record { cells = refl; writes = omega arith; ending = q }
   shows (suc m) x q l =
-      subst (Shows x.cells x.vm.writes (watched (watch m) (move P d (view x) x.cells) x.cells)) (sym (run_front m x ∙ ap (run P d m) (steps_so x q)))
-      (shows_tells m (counted x) (move P d (view x) x.cells) (goes P d (counted x)) (tells P d (counted x) l) q l (λ y r s. shows m y r s))
+      subst (Shows x.cells x.registers.writes (watched (watch m) (move P d (view x) x.cells) x.cells)) (sym (run_front m x ∙ ap (run P d m) (steps_so x q)))
+      (shows_tells m (one_step_more x) (move P d (view x) x.cells) (goes P d (one_step_more x)) (tells P d (one_step_more x) l) q l (λ y r s. shows m y r s))

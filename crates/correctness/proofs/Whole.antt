@@ -147,7 +147,7 @@ module _ (b : Body) (st : List ℕ) (σ : Store) (within : Within b (length σ))
   unfolding see after
   shown m = shows (program b) (depth b) (length σ) m (start st σ) refl lent
 
-  low : (m : ℕ) → (after b st σ m).vm.height ≤ depth b
+  low : (m : ℕ) → (after b st σ m).registers.height ≤ depth b
   unfolding after run
   low zero = omega arith
   low (suc m) = lawful.low (program b) (depth b) (after b st σ m) (low m)
@@ -156,7 +156,7 @@ module _ (b : Body) (st : List ℕ) (σ : Store) (within : Within b (length σ))
   unfolding src
   agrees m =
       let x = shown m in
-      let count : (after b st σ m).vm.writes ≡ length (written (see m)) = omega (arith, x.writes) in
+      let count : (after b st σ m).registers.writes ≡ length (written (see m)) = omega (arith, x.writes) in
       record {
         reached = (suc m, omega (arith, enough_writes m));
         same = λ k l. x.cells ∙ ap (λ ws. leave ws σ) (first_writes m k (omega arith) ∙ ap (λ (j : ℕ). take j (writes_of (exec b k σ))) (sym count));
@@ -169,14 +169,14 @@ module _ (b : Body) (st : List ℕ) (σ : Store) (within : Within b (length σ))
   counting m = count (program b) (depth b) (start st σ) refl refl m
 
   abbrev Least : ℕ → Type 0
-  Least m = (n : ℕ) × (n ≤ m) × ((after b st σ m).vm.steps ≡ n) × ((j : ℕ) → j < n → (after b st σ j).vm.ending ≡ None) × ((j : ℕ) → n ≤ j → after b st σ j ≡ after b st σ m)
+  Least m = (n : ℕ) × (n ≤ m) × ((after b st σ m).registers.steps ≡ n) × ((j : ℕ) → j < n → (after b st σ j).registers.ending ≡ None) × ((j : ℕ) → n ≤ j → after b st σ j ≡ after b st σ m)
 
-  counts_of : (m : ℕ) → Count (program b) (depth b) (start st σ) m → (after b st σ m).vm.ending ≡ None → (after b st σ m).vm.steps ≡ m
+  counts_of : (m : ℕ) → Count (program b) (depth b) (start st σ) m → (after b st σ m).registers.ending ≡ None → (after b st σ m).registers.steps ≡ m
   unfolding after
   counts_of m (going q c f) z = c
   counts_of m (over e n q l c f g) z = absurd (let w : ◌≡◌ {A = ℕ} 0 1 = cc in omega arith)
 
-  least_of : (m : ℕ) → Count (program b) (depth b) (start st σ) m → (e : Ending) → (after b st σ m).vm.ending ≡ Some e → Least m
+  least_of : (m : ℕ) → Count (program b) (depth b) (start st σ) m → (e : Ending) → (after b st σ m).registers.ending ≡ Some e → Least m
   unfolding after
   least_of m (going q c f) e z = absurd (let w : ◌≡◌ {A = ℕ} 0 1 = cc in omega arith)
   least_of m (over e n q l c f g) e' z = (n, l, c, f, g)

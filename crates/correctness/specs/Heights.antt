@@ -1,13 +1,14 @@
--- The table of pushes and pops, by which the depth of a code is counted, is what the machine's steps do.
+-- The table of pushes and pops, by which the depth of a code is counted, agrees with the steps of the machine.
 use Rattle.std.specs.Prelude.{◌≡◌, ℕ, List, None, slice_index_or}
 use Rattle.base.specs.declared.instr.Instr.{Instr}
 use Rattle.base.specs.Heights.{height}
 use Rattle.machine.specs.Machine.{State, step}
 
--- the instruction that a machine is at
+-- The instruction at the program counter.
 abbrev pub instruction_at : List Instr → State → Instr
-instruction_at P s = slice_index_or P s.vm.place record { number = 0; a = 0; b = 0 }
+instruction_at P s = slice_index_or P s.registers.pc record { number = 0; a = 0; b = 0 }
 
--- a step that does not end takes the words stacked to those that the table makes of them
+-- A step that does not end the run changes the number of words stacked as the table says.
 abbrev pub Heights : Type 0
-Heights = (P : List Instr) (d : ℕ) (s : State) → (step P d s).vm.ending ≡ None → (step P d s).vm.height ≡ height (instruction_at P s) s.vm.height
+Heights =
+    (P : List Instr) (d : ℕ) (s : State) → (step P d s).registers.ending ≡ None → (step P d s).registers.height ≡ height (instruction_at P s) s.registers.height

@@ -2,8 +2,8 @@
 ghost use Rattle.correctness.specs.Agreement.{Agreement};
 ghost use Rattle.correctness.specs.Examples.{Examples};
 ghost use Rattle.correctness.specs.Heights.{Heights};
-ghost use Rattle.correctness.specs.Named.{Celled, Ruled};
-ghost use Rattle.correctness.specs.Sessions.{Kept};
+ghost use Rattle.correctness.specs.Named.{CodeNamesItsOwnCells, NamesItsOwnCells};
+ghost use Rattle.correctness.specs.Sessions.{KeepsStep};
 
 /// States what holds of the code of a source that keeps the rules, over a store with at least the source's cells
 /// and a stack of at least its depth: the machine makes the source's writes in their order, ends only as the source
@@ -15,7 +15,7 @@ pub fn agreement_stands()
 /// States that after every list of calls on the code of a source that keeps the rules, the cells, writes, ending,
 /// height and steps are those of the source.
 pub fn sessions_keep_step()
-    ensures { Kept }
+    ensures { KeepsStep }
 {}
 
 /// States that every step that does not end the run changes the number of words stacked as the table of pushes and
@@ -26,12 +26,12 @@ pub fn heights_stand()
 
 /// States that a source that keeps the rules names its own cells only, so that it writes no others.
 pub fn cells_are_within()
-    ensures { Ruled }
+    ensures { NamesItsOwnCells }
 {}
 
 /// States that the code of a source that keeps the rules names the source's cells only.
 pub fn cells_stand()
-    ensures { Celled }
+    ensures { CodeNamesItsOwnCells }
 {}
 
 /// States the runs of two sources on the machine, step by step and in a session, and what the theorem says of one

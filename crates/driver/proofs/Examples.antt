@@ -1,10 +1,10 @@
 -- The table of examples: the machine by computing, and the meaning by the theorem. Assumes nothing.
 use Rattle.std.proofs.Common.{ℕ, ◌≤◌, List, [], ◌∷◌, ◌++◌, length, map, arith}
-use Rattle.arith.specs.Integers.{int, fitted, sum, difference, product, quotient, remainder, negation, within, subscript, chosen, turns}
+use Rattle.arith.specs.Integers.{int, integer_word, sum, difference, product, quotient, remainder, negation, within, subscript, case_index, turns}
 use Rattle.arith.specs.Logicals.{odd}
-use Rattle.arith.specs.Relations.{compared, lcompared}
-use Rattle.arith.specs.Fields.{deposited, field}
-use Rattle.machine.specs.Table.{decoded}
+use Rattle.arith.specs.Relations.{comparison, lcomparison}
+use Rattle.arith.specs.Fields.{with_field, field}
+use Rattle.machine.specs.Table.{op_of_number}
 use Rattle.machine.specs.Machine.{goes, step, run}
 use Rattle.compiler.proofs.Examples.{stages, examples as code_examples}
 use Rattle.compiler.specs.Examples.{Row as CodeRow, rows as code_rows}
@@ -13,7 +13,7 @@ use Rattle.driver.proofs.Meant.{meant}
 use Rattle.driver.specs.Examples.{Run, OnMachine, Row, compiling, running, HoldAll, runs, Examples}
 
 steps : ℕ
-unfolding int fitted sum difference product quotient remainder negation within subscript chosen turns odd compared lcompared deposited field decoded goes step run
+unfolding int integer_word sum difference product quotient remainder negation within subscript case_index turns odd comparison lcomparison with_field field op_of_number goes step run
 steps = 0
 
 abbrev RunAll : List Run → Type 0

@@ -7,7 +7,7 @@ use Rattle.sema.specs.Resolving.{resolve}
 use Rattle.machine.specs.Machine.{State, state, run}
 use Rattle.semantics.specs.Effects.{Store, leave, writes_of}
 use Rattle.semantics.specs.Meaning.{exec}
-use Rattle.machine.specs.Sessions.{begun}
+use Rattle.machine.specs.Sessions.{initial_registers}
 use Rattle.correctness.specs.Agreement.{Agrees, after}
 use Rattle.correctness.proofs.Ruled.{agrees as keeps_source}
 use Rattle.sema.specs.Rules.{widths}
@@ -17,7 +17,7 @@ use Rattle.driver.specs.Examples.{Outcome, Run, OnMachine, Meant}
 
 module _ (text : List ℕ) (p : Program) (c : Code) (w : CompiledTree text p c) (σ : Store) (there : c.cells ≤ length σ) (m : ℕ) where
   machine : State
-  machine = run c.instrs c.depth m (state begun (replicate c.depth 0) σ)
+  machine = run c.instrs c.depth m (state initial_registers (replicate c.depth 0) σ)
 
   agrees : Agrees σ (depth (resolve p)) (λ k. exec (resolve p) k σ) machine
   unfolding machine after

@@ -31,7 +31,7 @@ impl From<TrialFault> for Refusal {
     }
 }
 
-// By hand, as the one below: a derive gives no contract.
+// Written by hand, like the one below, since a derive gives no contract.
 impl From<CompileFault> for TrialFault {
     ghost from_gives = { λ e r. r ≡ Compile e };
 

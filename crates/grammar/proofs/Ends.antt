@@ -2,16 +2,16 @@
 use Rattle.std.proofs.Common.{◌≡◌, ℕ, ◌-◌, ◌<◌, cond, List, [], ◌∷◌, ◌++◌, Ok, refl, ap, ◌∙◌, arith}
 use denote.Enum.Bare.{true_same}
 use Rattle.base.specs.Refusals.{refuse}
-use Rattle.lexer.specs.declared.token.Kind.TheVariants as kind
+use Rattle.parser.specs.declared.value_type.ValueType.TheVariants as types
 use Rattle.lexer.specs.declared.token.Keyword.TheVariants as kw
 use Rattle.lexer.specs.declared.token.Symbol.TheVariants as sign
 use Rattle.lexer.specs.contracts.token.Keyword.{the_type as keyword_type}
 use Rattle.lexer.specs.contracts.token.Symbol.{the_type as symbol_type}
 use Rattle.parser.specs.declared.lexeme.Strength.TheVariants as strength
-use Rattle.parser.specs.Entries.{Entry}
-use Rattle.parser.specs.Entries as entry
+use Rattle.parser.specs.Nodes.{Node}
+use Rattle.parser.specs.Nodes as node
 use Rattle.parser.specs.Marks.{Tok}
-use Rattle.parser.specs.Machine.{Goal, Parsed, Use, part, into, used, expr, stored, stepping}
+use Rattle.parser.specs.Machine.{Goal, ParseAnswer, Use, part, into, after_field, expr, store_node, step_at}
 use Rattle.parser.specs.Machine as goal
 use Rattle.ast.specs.Trees as tree
 use Rattle.grammar.specs.Grammar.{symbol, word, name, decimal, Rank, lor, xor, land, relation, sum, term, factor, primary, lor_xor, xor_land, land_relation, relation_sum, sum_term, term_factor, factor_primary, ExprWritten, NotElse}
@@ -22,7 +22,7 @@ use Rattle.grammar.proofs.Exprs.{reads, whole, puts, Held, held, drop_more, drop
 use Rattle.grammar.proofs.Complete.{Settled, Closing, NoDeclaration, held_of, drop_clauses, drop_stmt, drop_otherwise, drop_declarations, turns_run}
 use Rattle.grammar.proofs.Sound.{Alive}
 
--- 0, in each place where something is to be read
+-- 0, in each offset where something is to be read
 abbrev zero : Tok
 zero = decimal 0 0
 
@@ -118,68 +118,68 @@ Safe (goal.high c n p a q ∷ k) = Safe k
 Safe (goal.finish ∷ k) = Unit {0}
 
 -- 0 as an expression of each strength
-zero_primary : (l : ℕ) (us : List Tok) → ExprWritten primary l (tree.number 0 kind.Integer) (zero ∷ us) us
+zero_primary : (l : ℕ) (us : List Tok) → ExprWritten primary l (tree.number 0 types.Integer) (zero ∷ us) us
 zero_primary l us = rule.number refl
 
-zero_term : (l : ℕ) (us : List Tok) → ExprWritten term l (tree.number 0 kind.Integer) (zero ∷ us) us
+zero_term : (l : ℕ) (us : List Tok) → ExprWritten term l (tree.number 0 types.Integer) (zero ∷ us) us
 zero_term l us = rule.up term_factor (rule.up factor_primary (zero_primary l us))
 
-zero_relation : (l : ℕ) (us : List Tok) → ExprWritten relation l (tree.number 0 kind.Integer) (zero ∷ us) us
+zero_relation : (l : ℕ) (us : List Tok) → ExprWritten relation l (tree.number 0 types.Integer) (zero ∷ us) us
 zero_relation l us = rule.up relation_sum (rule.up sum_term (zero_term l us))
 
-pub zero_lor : (l : ℕ) (us : List Tok) → ExprWritten lor l (tree.number 0 kind.Integer) (zero ∷ us) us
+pub zero_lor : (l : ℕ) (us : List Tok) → ExprWritten lor l (tree.number 0 types.Integer) (zero ∷ us) us
 zero_lor l us = rule.up lor_xor (rule.up xor_land (rule.up land_relation (zero_relation l us)))
 
 -- goals that accept tokens
-abbrev pub Fine : Parsed → Type 0
-Fine x = (es : List Entry) × (x ≡ Ok es)
+abbrev pub Fine : ParseAnswer → Type 0
+Fine x = (es : List Node) × (x ≡ Ok es)
 
-abbrev pub Accepts : (end : ℕ) → List Tok → List Goal → List Entry → Type 0
+abbrev pub Accepts : (end : ℕ) → List Tok → List Goal → List Node → Type 0
 Accepts end ts k o = Fine (run end ts k o)
 
-pub via : {x y : Parsed} → x ≡ y → Fine y → Fine x
+pub via : {x y : ParseAnswer} → x ≡ y → Fine y → Fine x
 via e a = (a.0, e ∙ a.1)
 
 mild : (us : List Tok) (n : ℕ) → Settled us → Held n us
 mild us n h = held us (held_of us h) (omega arith)
 
 -- Of goals above others that accept the tokens us.
-module _ (end : ℕ) (us : List Tok) (k : List Goal) (ok : (o : List Entry) → Accepts end us k o) where
-  put_ok : (x : Entry) (o : List Entry) → Accepts end us (goal.put x ∷ k) o
+module _ (end : ℕ) (us : List Tok) (k : List Goal) (ok : (o : List Node) → Accepts end us k o) where
+  put_ok : (x : Node) (o : List Node) → Accepts end us (goal.put x ∷ k) o
   put_ok x o = via (puts end us x k o) (ok _)
 
-  expr_ok : (l : ℕ) → Settled us → (o : List Entry) → Accepts end (zero ∷ us) (expr l ++ k) o
+  expr_ok : (l : ℕ) → Settled us → (o : List Node) → Accepts end (zero ∷ us) (expr l ++ k) o
   expr_ok l h o = via (whole (zero_lor l us) end k o (held_of us h)) (ok _)
 
 -- Of a statement that assigns, and of a FOR.
-module _ (end : ℕ) (us : List Tok) (k : List Goal) (ok : (o : List Entry) → Accepts end us k o) where
-  assigned : (l : ℕ) (x : Entry) → Settled us → (o : List Entry) → Accepts end (zero ∷ us) (expr l ++ goal.put x ∷ k) o
+module _ (end : ℕ) (us : List Tok) (k : List Goal) (ok : (o : List Node) → Accepts end us k o) where
+  assigned : (l : ℕ) (x : Node) → Settled us → (o : List Node) → Accepts end (zero ∷ us) (expr l ++ goal.put x ∷ k) o
   assigned l x h o = expr_ok end us (goal.put x ∷ k) (put_ok end us k ok x) l h o
 
-  deposited : (l : ℕ) (x y : Entry) → Settled us → (o : List Entry) → Accepts end (zero ∷ us) (expr l ++ goal.put x ∷ goal.put y ∷ k) o
+  deposited : (l : ℕ) (x y : Node) → Settled us → (o : List Node) → Accepts end (zero ∷ us) (expr l ++ goal.put x ∷ goal.put y ∷ k) o
   deposited l x y h o = expr_ok end us (goal.put x ∷ goal.put y ∷ k) (put_ok end us (goal.put y ∷ k) (put_ok end us k ok y) x) l h o
 
-  turned : (n : List ℕ) (p f l : ℕ) → Quiet us → (o : List Entry) → Accepts end (zero ∷ word kw.Do 0 ∷ us) (goal.turns n p f l ∷ k) o
+  turned : (n : List ℕ) (p f l : ℕ) → Quiet us → (o : List Node) → Accepts end (zero ∷ word kw.Do 0 ∷ us) (goal.turns n p f l ∷ k) o
   turned n p f l q o =
-      let g : List Goal = goal.put (entry.For n p f) ∷ goal.word kw.Do ∷ goal.stmt l ∷ goal.put (entry.Next n) ∷ goal.put entry.Drop ∷ k in
+      let g : List Goal = goal.put (node.For n p f) ∷ goal.word kw.Do ∷ goal.stmt l ∷ goal.put (node.Next n) ∷ goal.put node.Drop ∷ k in
       via
       (turns_run end n p f l (zero ∷ word kw.Do 0 ∷ us) k o
       ∙ whole (zero_lor l (word kw.Do 0 ∷ us)) end g o (omega arith)
       ∙ drop_stmt end l us _ _ q.1
-      ∙ puts end us (entry.Next n) _ _
-      ∙ puts end us entry.Drop k _)
+      ∙ puts end us (node.Next n) _ _
+      ∙ puts end us node.Drop k _)
       (ok _)
 
-  stepped : (n : List ℕ) (p f l : ℕ) → Quiet us → (o : List Entry) →
+  stepped : (n : List ℕ) (p f l : ℕ) → Quiet us → (o : List Node) →
       Accepts end (word kw.Until 0 ∷ zero ∷ word kw.Do 0 ∷ us) (goal.stepped n p f l ∷ k) o
-  unfolding stepping
-  stepped n p f l q o = via (puts end (zero ∷ word kw.Do 0 ∷ us) entry.One (goal.turns n p f l ∷ k) o) (turned n p f l q _)
+  unfolding step_at
+  stepped n p f l q o = via (puts end (zero ∷ word kw.Do 0 ∷ us) node.One (goal.turns n p f l ∷ k) o) (turned n p f l q _)
 
-  bits_ok : (u : Use) (a b p : ℕ) → Settled us → (o : List Entry) → Accepts end (used_end u us) (used u a b p k) o
-  bits_ok part a b p h o = put_ok end us k ok (entry.Field a b p) o
-  bits_ok (into s n q l) a b p h o = deposited l (entry.Deposit a b p) (stored s n q 0) h o
+  bits_ok : (u : Use) (a b p : ℕ) → Settled us → (o : List Node) → Accepts end (used_end u us) (after_field u a b p k) o
+  bits_ok part a b p h o = put_ok end us k ok (node.Field a b p) o
+  bits_ok (into s n q l) a b p h o = deposited l (node.Deposit a b p) (store_node s n q 0) h o
 
-pub accept : (end : ℕ) (k : List Goal) → Safe k → (o : List Entry) → Accepts end (completion k) k o
+pub accept : (end : ℕ) (k : List Goal) → Safe k → (o : List Node) → Accepts end (completion k) k o
 accept end [] h o = absurd h
 accept end (goal.sym s ∷ k) h o = via (ap (λ b. cond b (run end (completion k) k o) (refuse 5 0)) (true_same symbol_type s s refl)) (accept end k h o)
 accept end (goal.word w ∷ k) h o = via (ap (λ b. cond b (run end (completion k) k o) (refuse 5 0)) (true_same keyword_type w w refl)) (accept end k h o)
@@ -199,23 +199,23 @@ accept end (goal.bits u ∷ k) h o = bits_ok end (completion k) k (accept end k 
 accept end (goal.upto u a p ∷ k) h o = bits_ok end (completion k) k (accept end k h.1) u a 0 p h.0 o
 accept end (goal.shift ∷ k) h o = put_ok end (completion k) k (accept end k h) _ o
 accept end (goal.count s ∷ k) h o = put_ok end (completion k) k (accept end k h) _ o
-accept end (goal.test l ∷ k) h o = assigned end (completion k) k (accept end k h.1) l (entry.Test 0) h.0 o
+accept end (goal.test l ∷ k) h o = assigned end (completion k) k (accept end k h.1) l (node.Test 0) h.0 o
 accept end (goal.clauses l ∷ k) h o = via (drop_clauses end l (completion k) k o h.0) (accept end k h.1 _)
 accept end (goal.stmt l ∷ k) h o = via (drop_stmt end l (completion k) k o h.0.1) (accept end k h.1 _)
 accept end (goal.block l ∷ k) h o = accept end k h o
 accept end (goal.otherwise l ∷ k) h o = via (drop_otherwise end l (completion k) k o h.0.2) (accept end k h.1 _)
-accept end (goal.arms l ∷ k) h o = put_ok end (completion k) (goal.put entry.Esac ∷ k) (put_ok end (completion k) k (accept end k h) entry.Esac) entry.Out o
-accept end (goal.target n p l ∷ k) h o = assigned end (completion k) k (accept end k h.1) l (entry.Store n p 0) h.0 o
-accept end (goal.target_at n p q l ∷ k) h o = assigned end (completion k) k (accept end k h.1) l (entry.StoreAt n p 0) h.0 (o ++ entry.Checked n p q ∷ [])
-accept end (goal.becomes s n p l a b q ∷ k) h o = deposited end (completion k) k (accept end k h.1) l (entry.Deposit a b q) (stored s n p 0) h.0 o
+accept end (goal.arms l ∷ k) h o = put_ok end (completion k) (goal.put node.Esac ∷ k) (put_ok end (completion k) k (accept end k h) node.Esac) node.Out o
+accept end (goal.target n p l ∷ k) h o = assigned end (completion k) k (accept end k h.1) l (node.Store n p 0) h.0 o
+accept end (goal.target_at n p q l ∷ k) h o = assigned end (completion k) k (accept end k h.1) l (node.StoreAt n p 0) h.0 (o ++ node.Checked n p q ∷ [])
+accept end (goal.becomes s n p l a b q ∷ k) h o = deposited end (completion k) k (accept end k h.1) l (node.Deposit a b q) (store_node s n p 0) h.0 o
 accept end (goal.variable f l ∷ k) h o =
     let us : List Tok = word kw.Until 0 ∷ zero ∷ word kw.Do 0 ∷ completion k in
     let ok = stepped end (completion k) k (accept end k h.1) (65 ∷ []) 0 f l h.0 in
-    assigned end us (goal.stepped (65 ∷ []) 0 f l ∷ k) ok l (entry.First (65 ∷ []) 0 f) (omega arith, refl, refl) o
+    assigned end us (goal.stepped (65 ∷ []) 0 f l ∷ k) ok l (node.First (65 ∷ []) 0 f) (omega arith, refl, refl) o
 accept end (goal.stepped n p f l ∷ k) h o = stepped end (completion k) k (accept end k h.1) n p f l h.0 o
 accept end (goal.turns n p f l ∷ k) h o = turned end (completion k) k (accept end k h.1) n p f l h.0 o
 accept end (goal.declarations ∷ k) h o = via (drop_declarations end (completion k) k o h.0.3) (accept end k h.1 _)
-accept end (goal.typed c ∷ k) h o = accept end k h (o ++ entry.Simple (65 ∷ []) c 0 ∷ [])
+accept end (goal.typed c ∷ k) h o = accept end k h (o ++ node.Simple (65 ∷ []) c 0 ∷ [])
 accept end (goal.simple c ∷ k) h o = put_ok end (completion k) k (accept end k h) _ o
 accept end (goal.comma a c ∷ k) h o = accept end k h o
 accept end (goal.item c ∷ k) h o = put_ok end (completion k) k (accept end k h) _ o
@@ -224,7 +224,7 @@ accept end (goal.high c n p a q ∷ k) h o = put_ok end (completion k) k (accept
 accept end (goal.finish ∷ k) h o = (o, refl)
 
 -- the parenthesis of a conversion opens a level
-pub accept_paren : (end l : ℕ) (k : List Goal) → Safe k → 0 < l → (o : List Entry) → Accepts end (completion (goal.paren l ∷ k)) (goal.paren l ∷ k) o
+pub accept_paren : (end l : ℕ) (k : List Goal) → Safe k → 0 < l → (o : List Node) → Accepts end (completion (goal.paren l ∷ k)) (goal.paren l ∷ k) o
 accept_paren end l k h g o =
     via
     (deeper_in (symbol sign.Open 0) l _ g ∙ whole (zero_lor (l - 1) (symbol sign.Close 0 ∷ completion k)) end (goal.sym sign.Close ∷ k) o (omega arith))

@@ -3,7 +3,7 @@ use Rattle.std.proofs.Common.{◌≡◌, ℕ, suc, ◌≤◌, max, Bool, true, f
 use Rattle.std.proofs.lemmas.Bool.{false_from_ne_true}
 use denote.Enum.Bare.{same_true, false_same, true_same}
 use Rattle.grammar.specs.Theorems.{ToldApart}
-use Rattle.lexer.specs.declared.token.Kind.{Kind}
+use Rattle.parser.specs.declared.value_type.ValueType.{ValueType}
 use Rattle.lexer.specs.declared.token.Keyword.{Keyword}
 use Rattle.lexer.specs.declared.token.Keyword.TheVariants as kw
 use Rattle.lexer.specs.declared.token.Symbol.{Symbol}
@@ -17,7 +17,7 @@ use Rattle.parser.specs.declared.node.Operator.{Operator}
 use Rattle.parser.specs.declared.lexeme.Strength.{Strength}
 use Rattle.parser.specs.declared.lexeme.Strength.TheVariants as strength
 use Rattle.parser.specs.contracts.lexeme.Strength.{the_type as strength_type}
-use Rattle.parser.specs.Marks.{Mark, keyword, symbol, name, number, stop, seen, worded, is_stop, is_symbol, is_keyword, same_strength, literal_of, kind_of, operator_at, operator_sign, operator_word, strength_of, kept, truth_word, truth_at, kind_word}
+use Rattle.parser.specs.Marks.{Mark, keyword, symbol, name, number, stop, piece_tok, word_mark, is_stop, is_symbol, is_keyword, same_strength, literal_of, type_of, operator_at, operator_sign, operator_word, strength_of, of_strength, truth_word, truth_at, type_word}
 
 -- Booleans and options
 pub both : {A : Type 0} {b : Bool} → b ≡ true → b ≡ false → A
@@ -48,44 +48,44 @@ pub not_symbol : {A : Type 0} (f : Mark → Option A) (s : Symbol) (m : Mark) {x
 not_symbol f s m n h = false_from_ne_true _ (λ t. empty h (ap f (symbol_is s m t) ∙ n))
 
 -- a type's word is no literal
-word_kind : (w : Keyword) {k : Kind} → kind_word w ≡ Some k → truth_at (truth_word w) ≡ None
-word_kind kw.Begin h = refl
-word_kind kw.End h = refl
-word_kind kw.Integer h = refl
-word_kind kw.Logical h = refl
-word_kind kw.Array h = refl
-word_kind kw.If h = refl
-word_kind kw.Then h = refl
-word_kind kw.Else h = refl
-word_kind kw.Case h = refl
-word_kind kw.Of h = refl
-word_kind kw.While h = refl
-word_kind kw.Do h = refl
-word_kind kw.Until h = refl
-word_kind kw.For h = refl
-word_kind kw.Step h = refl
-word_kind kw.Or h = refl
-word_kind kw.And h = refl
-word_kind kw.Mod h = refl
-word_kind kw.Lnot h = refl
-word_kind kw.Land h = refl
-word_kind kw.Xor h = refl
-word_kind kw.Lor h = refl
-word_kind kw.Lsl h = refl
-word_kind kw.Lsr h = refl
-word_kind kw.Asr h = refl
-word_kind kw.Csl h = refl
-word_kind kw.Csr h = refl
-word_kind kw.True h = absurd cc
-word_kind kw.False h = absurd cc
-word_kind kw.Comment h = refl
+word_type : (w : Keyword) {k : ValueType} → type_word w ≡ Some k → truth_at (truth_word w) ≡ None
+word_type kw.Begin h = refl
+word_type kw.End h = refl
+word_type kw.Integer h = refl
+word_type kw.Logical h = refl
+word_type kw.Array h = refl
+word_type kw.If h = refl
+word_type kw.Then h = refl
+word_type kw.Else h = refl
+word_type kw.Case h = refl
+word_type kw.Of h = refl
+word_type kw.While h = refl
+word_type kw.Do h = refl
+word_type kw.Until h = refl
+word_type kw.For h = refl
+word_type kw.Step h = refl
+word_type kw.Or h = refl
+word_type kw.And h = refl
+word_type kw.Mod h = refl
+word_type kw.Lnot h = refl
+word_type kw.Land h = refl
+word_type kw.Xor h = refl
+word_type kw.Lor h = refl
+word_type kw.Lsl h = refl
+word_type kw.Lsr h = refl
+word_type kw.Asr h = refl
+word_type kw.Csl h = refl
+word_type kw.Csr h = refl
+word_type kw.True h = absurd cc
+word_type kw.False h = absurd cc
+word_type kw.Comment h = refl
 
-pub kind_literal : (m : Mark) {k : Kind} → kind_of m ≡ Some k → literal_of m ≡ None
-kind_literal (keyword w) h = word_kind w h
-kind_literal (symbol s) h = refl
-kind_literal (name n) h = refl
-kind_literal (number k v) h = absurd cc
-kind_literal stop h = refl
+pub type_literal : (m : Mark) {k : ValueType} → type_of m ≡ Some k → literal_of m ≡ None
+type_literal (keyword w) h = word_type w h
+type_literal (symbol s) h = refl
+type_literal (name n) h = refl
+type_literal (number k v) h = absurd cc
+type_literal stop h = refl
 
 -- the strengths from the weakest
 abbrev pub rank_of : Strength → ℕ
@@ -149,7 +149,7 @@ suffix_none sign.Times o h = refl
 suffix_none sign.Divide o h = refl
 suffix_none sign.Ampersand o h = absurd cc
 
-kept_rank : (s : Strength) (x : Option Operator) {o : Operator} → kept s x ≡ Some o → grip_of x ≡ suc (rank_of s)
+kept_rank : (s : Strength) (x : Option Operator) {o : Operator} → of_strength s x ≡ Some o → grip_of x ≡ suc (rank_of s)
 kept_rank s None h = empty (sym h ∙ h) (sym h)
 kept_rank s (Some x) {o} h = go (same_strength s (strength_of x)) refl h
   where
@@ -157,7 +157,7 @@ kept_rank s (Some x) {o} h = go (same_strength s (strength_of x)) refl h
     go true e h = ap (λ r. suc (rank_of r)) (sym (same_true strength_type tt s (strength_of x) e))
     go false e h = absurd cc
 
-some_of : (s : Strength) (x : Option Operator) {o : Operator} → kept s x ≡ Some o → (y : Operator) × (x ≡ Some y)
+some_of : (s : Strength) (x : Option Operator) {o : Operator} → of_strength s x ≡ Some o → (y : Operator) × (x ≡ Some y)
 some_of s None h = empty (sym h ∙ h) (sym h)
 some_of s (Some x) h = (x, refl)
 
@@ -172,7 +172,7 @@ operator_grip s (name n) h = absurd cc
 operator_grip s (number k v) h = absurd cc
 operator_grip s stop h = absurd cc
 
-kept_none : (s : Strength) (x : Option Operator) → grip_of x ≤ rank_of s → kept s x ≡ None
+kept_none : (s : Strength) (x : Option Operator) → grip_of x ≤ rank_of s → of_strength s x ≡ None
 kept_none s None h = refl
 kept_none s (Some x) h = ap (λ b. cond b (Some x) None) (false_same strength_type tt s (strength_of x) (λ e. let r = ap rank_of e in omega arith))
 
@@ -193,11 +193,11 @@ pub no_open : (m : Mark) → grip m ≤ 7 → is_symbol sign.Open m ≡ false
 no_open m h = false_from_ne_true _ (λ t. let e = ap grip (symbol_is sign.Open m t) in omega arith)
 
 -- no token of a text is its end
-word_live : (w : List ℕ) (k : Option Keyword) → is_stop (worded w k) ≡ false
+word_live : (w : List ℕ) (k : Option Keyword) → is_stop (word_mark w k) ≡ false
 word_live w None = refl
 word_live w (Some k) = refl
 
-pub seen_live : (p : Piece) → is_stop (seen p).sort ≡ false
+pub seen_live : (p : Piece) → is_stop (piece_tok p).sort ≡ false
 seen_live (piece.word w p) = word_live w (keyword_of w)
 seen_live (piece.number w k v p) = refl
 seen_live (piece.symbol s p) = refl

@@ -1,7 +1,7 @@
--- What each goal of the machine stands for: which tokens it takes, as the grammar writes them, and which entries it
+-- What each goal of the machine stands for: which tokens it takes, as the grammar writes them, and which nodes it
 -- leaves. Assumes nothing.
 use Rattle.std.proofs.Common.{◌≡◌, ℕ, ◌-◌, ◌<◌, Bool, true, false, List, [], ◌∷◌, Some}
-use Rattle.lexer.specs.declared.token.Kind.{Kind}
+use Rattle.parser.specs.declared.value_type.ValueType.{ValueType}
 use Rattle.lexer.specs.declared.token.Keyword.{Keyword}
 use Rattle.lexer.specs.declared.token.Keyword.TheVariants as kw
 use Rattle.lexer.specs.declared.token.Symbol.{Symbol}
@@ -9,39 +9,39 @@ use Rattle.lexer.specs.declared.token.Symbol.TheVariants as sign
 use Rattle.arith.specs.declared.shift.Kind.{Kind as ShiftKind}
 use Rattle.parser.specs.declared.lexeme.Strength.{Strength}
 use Rattle.parser.specs.declared.lexeme.Strength.TheVariants as strength
-use Rattle.parser.specs.Entries.{Entry}
-use Rattle.parser.specs.Entries as entry
+use Rattle.parser.specs.Nodes.{Node}
+use Rattle.parser.specs.Nodes as node
 use Rattle.parser.specs.Marks.{Mark, Tok, shift_of}
-use Rattle.parser.specs.Machine.{Goal, Use, part, into, stored}
+use Rattle.parser.specs.Machine.{Goal, Use, part, into, store_node}
 use Rattle.parser.specs.Machine as goal
 use Rattle.ast.specs.Trees.{Expr, Cond, Body, Arms, Decl}
 use Rattle.ast.specs.Lists.{list_e, list_c, list_b, list_a, list_d, list_ds}
-use Rattle.grammar.specs.Grammar.{at, symbol, word, name, decimal, Rank, lor, xor, land, relation, sum, term, factor, primary, ExprWritten, CondWritten, StatementWritten, Inside, ListWritten, ArmsWritten, ItemWritten, ItemsWritten, TypedWritten, DeclarationsWritten}
+use Rattle.grammar.specs.Grammar.{tok_at, symbol, word, name, decimal, Rank, lor, xor, land, relation, sum, term, factor, primary, ExprWritten, CondWritten, StatementWritten, Inside, ListWritten, ArmsWritten, ItemWritten, ItemsWritten, TypedWritten, DeclarationsWritten}
 
--- what tokens and entries stand for
+-- what tokens and nodes stand for
 abbrev pub Pred : Type 1
-Pred = List Tok → List Entry → Type 0
+Pred = List Tok → List Node → Type 0
 
 -- some tree that W writes and L lists, and then what B says
-pub record Got {X : Type 0} (W : X → List Tok → List Tok → Type 0) (L : X → List Entry → List Entry) (B : Pred) (ts : List Tok) (es : List Entry) : Type 0 where
+pub record Got {X : Type 0} (W : X → List Tok → List Tok → Type 0) (L : X → List Node → List Node) (B : Pred) (ts : List Tok) (es : List Node) : Type 0 where
   pub what : X
   pub behind : List Tok
-  pub left : List Entry
+  pub left : List Node
   pub written : W what ts behind
   pub entries : es ≡ L what left
   pub below : B behind left
 
--- an entry; a symbol; a reserved word; a decimal number
-pub record Put (x : Entry) (B : Pred) (ts : List Tok) (es : List Entry) : Type 0 where
-  pub left : List Entry
+-- a node; a symbol; a reserved word; a decimal number
+pub record Put (x : Node) (B : Pred) (ts : List Tok) (es : List Node) : Type 0 where
+  pub left : List Node
   pub entries : es ≡ x ∷ left
   pub below : B ts left
 
-pub record Takes (T : ℕ → Tok) (B : ℕ → Pred) (ts : List Tok) (es : List Entry) : Type 0 where
-  pub place : ℕ
+pub record Takes (T : ℕ → Tok) (B : ℕ → Pred) (ts : List Tok) (es : List Node) : Type 0 where
+  pub offset : ℕ
   pub behind : List Tok
-  pub tokens : ts ≡ T place ∷ behind
-  pub below : B place behind es
+  pub tokens : ts ≡ T offset ∷ behind
+  pub below : B offset behind es
 
 abbrev pub Sym : Symbol → Pred → Pred
 Sym s B ts es = Takes (symbol s) (λ _. B) ts es
@@ -49,12 +49,12 @@ Sym s B ts es = Takes (symbol s) (λ _. B) ts es
 abbrev pub Word : Keyword → Pred → Pred
 Word w B ts es = Takes (word w) (λ _. B) ts es
 
-pub record Number (B : ℕ → ℕ → Pred) (ts : List Tok) (es : List Entry) : Type 0 where
+pub record Number (B : ℕ → ℕ → Pred) (ts : List Tok) (es : List Node) : Type 0 where
   pub value : ℕ
-  pub place : ℕ
+  pub offset : ℕ
   pub behind : List Tok
-  pub tokens : ts ≡ decimal value place ∷ behind
-  pub below : B value place behind es
+  pub tokens : ts ≡ decimal value offset ∷ behind
+  pub below : B value offset behind es
 
 -- expressions
 abbrev pub Ex : Rank → ℕ → Pred → Pred
@@ -79,10 +79,10 @@ Paren l B ts es = (0 < l) × Takes (symbol sign.Open) (λ _. Ex lor (l - 1) (Sym
 
 -- fields and shifts
 abbrev pub Becomes : (subscript : Bool) (n : List ℕ) (p l a b q : ℕ) → Pred → Pred
-Becomes s n p l a b q B ts es = Takes (symbol sign.Becomes) (λ r. Ex lor l (Put (entry.Deposit a b q) (Put (stored s n p r) B))) ts es
+Becomes s n p l a b q B ts es = Takes (symbol sign.Becomes) (λ r. Ex lor l (Put (node.Deposit a b q) (Put (store_node s n p r) B))) ts es
 
 abbrev pub Used : Use → (a b q : ℕ) → Pred → Pred
-Used part a b q B ts es = Put (entry.Field a b q) B ts es
+Used part a b q B ts es = Put (node.Field a b q) B ts es
 Used (into s n p l) a b q B ts es = Becomes s n p l a b q B ts es
 
 abbrev pub Upto : Use → (a q : ℕ) → Pred → Pred
@@ -92,26 +92,26 @@ abbrev pub Bits : Use → Pred → Pred
 Bits u B ts es = Number (λ a q. Sym sign.Colon (Upto u a q B)) ts es
 
 abbrev pub Count : ShiftKind → Pred → Pred
-Count s B ts es = Number (λ c q. Sym sign.Close (Put (entry.Shift s c q) B)) ts es
+Count s B ts es = Number (λ c q. Sym sign.Close (Put (node.Shift s c q) B)) ts es
 
-pub record Shifts (B : Pred) (ts : List Tok) (es : List Entry) : Type 0 where
+pub record Shifts (B : Pred) (ts : List Tok) (es : List Node) : Type 0 where
   pub mark : Mark
-  pub place : ℕ
+  pub offset : ℕ
   pub kind : ShiftKind
   pub behind : List Tok
   pub is : shift_of mark ≡ Some kind
-  pub tokens : ts ≡ at mark place ∷ behind
+  pub tokens : ts ≡ tok_at mark offset ∷ behind
   pub below : Sym sign.Open (Count kind B) behind es
 
 -- conditions
-pub record Test (l : ℕ) (B : Pred) (ts : List Tok) (es : List Entry) : Type 0 where
+pub record Test (l : ℕ) (B : Pred) (ts : List Tok) (es : List Node) : Type 0 where
   pub first : Tok
   pub behind : List Tok
   pub tokens : ts ≡ first ∷ behind
-  pub below : Ex lor l (Put (entry.Test first.place) B) (first ∷ behind) es
+  pub below : Ex lor l (Put (node.Test first.offset) B) (first ∷ behind) es
 
 abbrev pub Clauses : ℕ → Pred → Pred
-Clauses l B ts es = (e : Expr) (t : Tok) (ss : List Tok) → ExprWritten lor l e (t ∷ ss) ts → Got (CondWritten l) list_c B (t ∷ ss) (list_e e (entry.Test t.place ∷ es))
+Clauses l B ts es = (e : Expr) (t : Tok) (ss : List Tok) → ExprWritten lor l e (t ∷ ss) ts → Got (CondWritten l) list_c B (t ∷ ss) (list_e e (node.Test t.offset ∷ es))
 
 -- statements
 abbrev pub St : ℕ → Pred → Pred
@@ -131,12 +131,12 @@ abbrev pub Block : ℕ → Pred → Pred
 Block l B ts es = (b : Body) (ss : List Tok) → StatementWritten l b ss ts → Got (Ended l) list_b B ss (list_b b es)
 
 abbrev pub ArmsOf : ℕ → Pred → Pred
-ArmsOf l B ts es = (b : Body) (ss : List Tok) → StatementWritten l b ss ts → Got (EndedArms l) (λ a r. list_a a (entry.Esac ∷ r)) B ss (entry.Arm ∷ list_b b es)
+ArmsOf l B ts es = (b : Body) (ss : List Tok) → StatementWritten l b ss ts → Got (EndedArms l) (λ a r. list_a a (node.Esac ∷ r)) B ss (node.Arm ∷ list_b b es)
 
 abbrev pub Otherwise : ℕ → Pred → Pred
 Otherwise l B ts es =
     (p q : ℕ) (c : Cond) (b : Body) (cs bs : List Tok) → CondWritten l c cs (word kw.Then q ∷ bs) → StatementWritten l b bs ts →
-    In kw.If p l B cs (entry.If ∷ list_c c (entry.Then ∷ list_b b es))
+    In kw.If p l B cs (node.If ∷ list_c c (node.Then ∷ list_b b es))
 
 abbrev pub TargetAt : (n : List ℕ) (p q l : ℕ) → Pred → Pred
 TargetAt n p q l B ts es =
@@ -144,22 +144,22 @@ TargetAt n p q l B ts es =
 
 abbrev pub Stepped : (n : List ℕ) (p f l : ℕ) → Pred → Pred
 Stepped n p f l B ts es =
-    (e : Expr) (ss : List Tok) (q : ℕ) → ExprWritten lor l e ss ts → In kw.For f l B (name n p ∷ symbol sign.Becomes q ∷ ss) (list_e e (entry.First n p f ∷ es))
+    (e : Expr) (ss : List Tok) (q : ℕ) → ExprWritten lor l e ss ts → In kw.For f l B (name n p ∷ symbol sign.Becomes q ∷ ss) (list_e e (node.First n p f ∷ es))
 
 abbrev pub Turns : (n : List ℕ) (p f l : ℕ) → Pred → Pred
-Turns n p f l B ts es = Ex lor l (Put (entry.For n p f) (Word kw.Do (St l (Put (entry.Next n) (Put entry.Drop B))))) ts es
+Turns n p f l B ts es = Ex lor l (Put (node.For n p f) (Word kw.Do (St l (Put (node.Next n) (Put node.Drop B))))) ts es
 
 -- declarations
-abbrev pub Item : Bool → Kind → Pred → Pred
+abbrev pub Item : Bool → ValueType → Pred → Pred
 Item a c B ts es = Got (ItemWritten a c) (λ d r. list_d d ∷ r) B ts es
 
-abbrev pub Comma : Bool → Kind → Pred → Pred
+abbrev pub Comma : Bool → ValueType → Pred → Pred
 Comma a c B ts es = (d : Decl) (ss : List Tok) → ItemWritten a c d ss ts → Got (ItemsWritten a c) list_ds B ss (list_d d ∷ es)
 
-abbrev pub High : Kind → (n : List ℕ) (p a q : ℕ) → Pred → Pred
-High c n p a q B ts es = Number (λ b _. Sym sign.Close (Put (entry.Array n c a b p q) B)) ts es
+abbrev pub High : ValueType → (n : List ℕ) (p a q : ℕ) → Pred → Pred
+High c n p a q B ts es = Number (λ b _. Sym sign.Close (Put (node.Array n c a b p q) B)) ts es
 
-abbrev pub Low : Kind → (n : List ℕ) (p : ℕ) → Pred → Pred
+abbrev pub Low : ValueType → (n : List ℕ) (p : ℕ) → Pred → Pred
 Low c n p B ts es = Number (λ a q. Sym sign.Colon (High c n p a q B)) ts es
 
 -- one goal, and then what B says

@@ -3,7 +3,7 @@
 use Rattle.std.proofs.Common.{◌≡◌, ℕ, ◌⊎◌, List, [], ◌∷◌, ◌++◌, sym, refl, ap, ◌∙◌, subst, inl, inr, ⊎_elim, append_assoc, ap₂}
 use Rattle.parser.specs.Marks.{Tok}
 use Rattle.grammar.specs.Grammar.{ProgramWritten}
-use Rattle.grammar.specs.Prefixes.{Begins, Converting, Begun}
+use Rattle.grammar.specs.Prefixes.{Begins, EndsInConversion, IsBegun}
 
 -- lists that are split twice
 shorter : (xs us ys : List Tok) (y : Tok) → xs ++ us ≡ ys ++ y ∷ [] → (xs ≡ ys ++ y ∷ []) ⊎ ((vs : List Tok) × (ys ≡ xs ++ vs))
@@ -34,14 +34,14 @@ splits (z ∷ xs) (w ∷ ys) us vs x y e =
 begins_fewer : (l : ℕ) (ts us : List Tok) → Begins l (ts ++ us) → Begins l ts
 begins_fewer l ts us b = (b.0, us ++ b.1, subst (ProgramWritten l b.0) (append_assoc ts us b.1) b.2)
 
-converting_fewer : (ts us : List Tok) → Converting (ts ++ us) → Begins 32 ts ⊎ Converting ts
+converting_fewer : (ts us : List Tok) → EndsInConversion (ts ++ us) → Begins 32 ts ⊎ EndsInConversion ts
 converting_fewer ts us c =
     ⊎_elim
-    (λ e. inr record { before = c.before; word = c.word; kind = c.kind; tokens = e; is = c.is; begun = c.begun })
+    (λ e. inr record { before = c.before; word = c.word; value_type = c.value_type; tokens = e; is = c.is; begun = c.begun })
     (λ x. inl (begins_fewer 32 ts x.0 (subst (Begins 32) x.1 c.begun)))
     (shorter ts us c.before c.word c.tokens)
 
-begun_fewer : (ts us : List Tok) → Begun (ts ++ us) → Begun ts
+begun_fewer : (ts us : List Tok) → IsBegun (ts ++ us) → IsBegun ts
 begun_fewer ts us b = (begins_fewer 33 ts us b.0, ⊎_elim (λ c. inl (begins_fewer 32 ts us c)) (λ c. converting_fewer ts us c) b.1)
 
 -- tokens that are split at a token
@@ -51,14 +51,14 @@ at_token ts b a t e = e ∙ sym (append_assoc b (t ∷ []) a)
 pub begins_to : (l : ℕ) (ts b a : List Tok) (t : Tok) → ts ≡ b ++ t ∷ a → Begins l ts → Begins l (b ++ t ∷ [])
 begins_to l ts b a t e x = begins_fewer l (b ++ t ∷ []) a (subst (Begins l) (at_token ts b a t e) x)
 
-pub begun_to : (ts b a : List Tok) (t : Tok) → ts ≡ b ++ t ∷ a → Begun ts → Begun (b ++ t ∷ [])
-begun_to ts b a t e x = begun_fewer (b ++ t ∷ []) a (subst Begun (at_token ts b a t e) x)
+pub begun_to : (ts b a : List Tok) (t : Tok) → ts ≡ b ++ t ∷ a → IsBegun ts → IsBegun (b ++ t ∷ [])
+begun_to ts b a t e x = begun_fewer (b ++ t ∷ []) a (subst IsBegun (at_token ts b a t e) x)
 
 -- there is one first token with which they are not
-pub one_first : (ts b c a d : List Tok) (t u : Tok) → ts ≡ b ++ t ∷ a → ts ≡ c ++ u ∷ d → Begun b → Begun c →
-    (Begun (b ++ t ∷ []) → ⊥) → (Begun (c ++ u ∷ []) → ⊥) → (b ≡ c) × (t ≡ u)
+pub one_first : (ts b c a d : List Tok) (t u : Tok) → ts ≡ b ++ t ∷ a → ts ≡ c ++ u ∷ d → IsBegun b → IsBegun c →
+    (IsBegun (b ++ t ∷ []) → ⊥) → (IsBegun (c ++ u ∷ []) → ⊥) → (b ≡ c) × (t ≡ u)
 one_first ts b c a d t u e f x y n o =
     ⊎_elim
-    (λ i. absurd (n (begun_fewer (b ++ t ∷ []) i.0 (subst Begun i.1 y))))
-    (λ r. ⊎_elim (λ i. i) (λ i. absurd (o (begun_fewer (c ++ u ∷ []) i.0 (subst Begun i.1 x)))) r)
+    (λ i. absurd (n (begun_fewer (b ++ t ∷ []) i.0 (subst IsBegun i.1 y))))
+    (λ r. ⊎_elim (λ i. i) (λ i. absurd (o (begun_fewer (c ++ u ∷ []) i.0 (subst IsBegun i.1 x)))) r)
     (splits b c a d t u (sym e ∙ f))

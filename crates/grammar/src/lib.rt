@@ -1,5 +1,5 @@
-// The grammar as trees: which tokens each tree is written with. The laws say that the reader reads exactly these, and where
-// it refuses.
+// The grammar as trees, with the tokens with which each tree is written. The laws say that the reader reads exactly
+// these, and where it refuses.
 #![tactic(auto)]
 
 ghost use Rattle.grammar.specs.Theorems.{ReadsTheGrammar, ListsATree, OneTree, ToldApart};
@@ -16,7 +16,7 @@ pub fn lists_a_tree()
     ensures { ListsATree }
 {}
 
-/// A law: tokens are written from one tree at most.
+/// A law: no two trees have the same tokens.
 pub fn one_tree()
     ensures { OneTree }
 {}
@@ -26,8 +26,8 @@ pub fn tokens_are_told_apart()
     ensures { ToldApart }
 {}
 
-/// A law: refusal 5 stands at the first token with which no program begins, or at the end of tokens that a program begins
-/// with and that are none.
+/// A law: refusal 5 stands at the first token with which no program begins, or at the end of tokens that begin a
+/// program and are not one.
 pub fn refused_where_none_begins()
     ensures { RefusedWhereNoneBegins }
 {}

@@ -6,8 +6,8 @@ use Rattle.base.specs.declared.refusal.Refusal.{Refusal}
 use Rattle.base.specs.Refusals.{refuse, then}
 use Rattle.base.specs.declared.instr.Instr.{Instr}
 use Rattle.image.specs.Codes.{Code, entry_bytes, body_bytes, good_entry, good_header, image}
-use Rattle.image.specs.Groups.{written}
-use Rattle.image.specs.Writing.{size_of, judged, encoded}
+use Rattle.image.specs.Groups.{number_bytes}
+use Rattle.image.specs.Writing.{size_of, entry_refusal, encoding}
 
 -- what stands past the end of a table
 abbrev pub none : Instr
@@ -40,12 +40,12 @@ bad_size i =
     (λ t p. absurd (let z : ◌≡◌ {A = ℕ} 0 1 = cc in omega arith))
     (λ t p. t)
 
-pub judged_more : (xs : List Instr) (i k : ℕ) (d : Instr) → i < length xs → good_entry (get_or xs i d) ≡ true → judged k (drop i xs) ≡ judged (k + 1) (drop (i + 1) xs)
-unfolding judged
+pub judged_more : (xs : List Instr) (i k : ℕ) (d : Instr) → i < length xs → good_entry (get_or xs i d) ≡ true → entry_refusal k (drop i xs) ≡ entry_refusal (k + 1) (drop (i + 1) xs)
+unfolding entry_refusal
 judged_more xs i k d h g = rw (drop_more xs i d h) (rw g)
 
-pub judged_bad : (xs : List Instr) (i k : ℕ) (d : Instr) → i < length xs → good_entry (get_or xs i d) ≡ false → judged k (drop i xs) ≡ refuse 28 k
-unfolding judged
+pub judged_bad : (xs : List Instr) (i k : ℕ) (d : Instr) → i < length xs → good_entry (get_or xs i d) ≡ false → entry_refusal k (drop i xs) ≡ refuse 28 k
+unfolding entry_refusal
 judged_bad xs i k d h g = rw (drop_more xs i d h) (rw g)
 
 abbrev pub sized : ℕ → Result ℕ Refusal
@@ -54,42 +54,42 @@ sized n = Ok n
 abbrev pub unsized : Refusal → Result ℕ Refusal
 unsized e = Err e
 
-pub judged_end : (xs : List Instr) (i : ℕ) → length xs ≤ i → judged i (drop i xs) ≡ Ok tt
-unfolding judged
+pub judged_end : (xs : List Instr) (i : ℕ) → length xs ≤ i → entry_refusal i (drop i xs) ≡ Ok tt
+unfolding entry_refusal
 judged_end xs i h = rw (drop_all i xs h)
 
 -- what the measuring loop answers
-pub measured_bad : (xs : List Instr) (i : ℕ) → judged 0 xs ≡ refuse 28 i → refuse 28 i ≡ then (judged 0 xs) (λ _. Ok (length (body_bytes xs)))
+pub measured_bad : (xs : List Instr) (i : ℕ) → entry_refusal 0 xs ≡ refuse 28 i → refuse 28 i ≡ then (entry_refusal 0 xs) (λ _. Ok (length (body_bytes xs)))
 measured_bad xs i e = rw e
 
-pub measured_good : (xs : List Instr) (n : ℕ) → judged 0 xs ≡ Ok tt → n ≡ length (body_bytes xs) → sized n ≡ then (judged 0 xs) (λ _. Ok (length (body_bytes xs)))
+pub measured_good : (xs : List Instr) (n : ℕ) → entry_refusal 0 xs ≡ Ok tt → n ≡ length (body_bytes xs) → sized n ≡ then (entry_refusal 0 xs) (λ _. Ok (length (body_bytes xs)))
 measured_good xs n e b = rw e (ap sized b)
 
-pub image_length : (k : Code) → length (image k) ≡ length (written k.cells) + length (written k.depth) + length (written (length k.entries)) + length (body_bytes k.entries)
+pub image_length : (k : Code) → length (image k) ≡ length (number_bytes k.cells) + length (number_bytes k.depth) + length (number_bytes (length k.entries)) + length (body_bytes k.entries)
 unfolding image
 image_length k =
-    let c = written k.cells in
-    let d = written k.depth in
-    let n = written (length k.entries) in
+    let c = number_bytes k.cells in
+    let d = number_bytes k.depth in
+    let n = number_bytes (length k.entries) in
     let b = body_bytes k.entries in
     omega (arith, length-append c d, length-append (c ++ d) n, length-append (c ++ d ++ n) b)
 
 -- what the writer answers, by what it found
 module _ (room : ℕ) (k : Code) where
-  pub encoded_header : good_header k.cells (length k.entries) ≡ false → encoded room k ≡ refuse 28 0
-  unfolding encoded
+  pub encoded_header : good_header k.cells (length k.entries) ≡ false → encoding room k ≡ refuse 28 0
+  unfolding encoding
   encoded_header h = rw h
 
-  pub encoded_entry : (e : Refusal) → good_header k.cells (length k.entries) ≡ true → judged 0 k.entries ≡ Err e → encoded room k ≡ Err e
-  unfolding encoded
+  pub encoded_entry : (e : Refusal) → good_header k.cells (length k.entries) ≡ true → entry_refusal 0 k.entries ≡ Err e → encoding room k ≡ Err e
+  unfolding encoding
   encoded_entry e h j = rw (h, j)
 
-  pub encoded_short : (n : ℕ) → good_header k.cells (length k.entries) ≡ true → judged 0 k.entries ≡ Ok tt → n ≡ length (image k) → room < n → encoded room k ≡ refuse 27 n
-  unfolding encoded
+  pub encoded_short : (n : ℕ) → good_header k.cells (length k.entries) ≡ true → entry_refusal 0 k.entries ≡ Ok tt → n ≡ length (image k) → room < n → encoding room k ≡ refuse 27 n
+  unfolding encoding
   encoded_short n h j e l = let m : room < length (image k) = omega (arith, e) in rw (h, j, lt-leb (length (image k)) room m) (ap (λ i. refuse 27 i) (sym e))
 
-  pub encoded_whole : good_header k.cells (length k.entries) ≡ true → judged 0 k.entries ≡ Ok tt → length (image k) ≤ room → encoded room k ≡ Ok (image k)
-  unfolding encoded
+  pub encoded_whole : good_header k.cells (length k.entries) ≡ true → entry_refusal 0 k.entries ≡ Ok tt → length (image k) ≤ room → encoding room k ≡ Ok (image k)
+  unfolding encoding
   encoded_whole h j l = rw (h, j, le-leb (length (image k)) room l)
 
 pub judged_err : (x : Result (Unit {0}) Refusal) (n : ℕ) (e : Refusal) → unsized e ≡ then x (λ _. Ok n) → x ≡ Err e

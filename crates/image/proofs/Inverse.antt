@@ -7,7 +7,7 @@ use Rattle.base.specs.declared.refusal.Refusal.{Refusal}
 use Rattle.base.specs.declared.instr.Instr.{Instr}
 use Rattle.base.specs.declared.code.Figures.{Figures}
 use Rattle.image.specs.Groups.{number}
-use Rattle.image.specs.Reading.{cells_at, count_at, figures_at, entry_at, entries_at, decoded, figured, laid}
+use Rattle.image.specs.Reading.{cells_at, count_at, figures_at, entry_at, entries_at, decoding, figures_of, table_after}
 use Rattle.image.proofs.Numbers.{got}
 
 -- a refusal is no answer
@@ -84,17 +84,17 @@ entries_length end (suc n) o bs is p =
 -- the whole, from its two parts
 pub decoded_from : (room : ℕ) (bs : List ℕ) (f : Figures) (cs : List ℕ) (is : List Instr) →
     figures_at (length bs) room bs ≡ Ok (f, cs) → entries_at (length bs) f.count [] cs ≡ Ok is →
-    decoded room bs ≡ Ok record { cells = f.cells; depth = f.depth; entries = is }
-unfolding decoded
+    decoding room bs ≡ Ok record { cells = f.cells; depth = f.depth; entries = is }
+unfolding decoding
 decoded_from room bs f cs is p q = rw p (rw q refl)
 
-pub decoded_figures : (room : ℕ) (bs : List ℕ) (e : Refusal) → figures_at (length bs) room bs ≡ Err e → decoded room bs ≡ Err e
-unfolding decoded
+pub decoded_figures : (room : ℕ) (bs : List ℕ) (e : Refusal) → figures_at (length bs) room bs ≡ Err e → decoding room bs ≡ Err e
+unfolding decoding
 decoded_figures room bs e p = rw p refl
 
 pub decoded_entries : (room : ℕ) (bs : List ℕ) (f : Figures) (cs : List ℕ) (e : Refusal) →
-    figures_at (length bs) room bs ≡ Ok (f, cs) → entries_at (length bs) f.count [] cs ≡ Err e → decoded room bs ≡ Err e
-unfolding decoded
+    figures_at (length bs) room bs ≡ Ok (f, cs) → entries_at (length bs) f.count [] cs ≡ Err e → decoding room bs ≡ Err e
+unfolding decoding
 decoded_entries room bs f cs e p q = rw p (rw q refl)
 
 abbrev told_as : Figures → ℕ → Result Figures Refusal
@@ -102,14 +102,14 @@ told_as f n = Ok record { cells = f.cells; depth = f.depth; count = n }
 
 -- the figures of what was read
 pub figures_told : (end n : ℕ) (bs : List ℕ) (is : List Instr) (f : Figures) → n ≡ f.count → entries_at end n [] bs ≡ Ok is →
-    Ok f ≡ figured (Ok record { cells = f.cells; depth = f.depth; entries = is })
+    Ok f ≡ figures_of (Ok record { cells = f.cells; depth = f.depth; entries = is })
 figures_told end n bs is f e p =
     let l : f.count ≡ length is = omega (arith, entries_length end n [] bs is p) in
     ap (λ m. told_as f m) l
 
 -- the table, from its two parts
 pub laid_down : (end n : ℕ) (bs : List ℕ) (f : Figures) (old new : List Instr) → entries_at end n [] bs ≡ Ok (take n new) → drop n new ≡ drop n old →
-    new ≡ laid (Ok record { cells = f.cells; depth = f.depth; entries = take n new }) old
+    new ≡ table_after (Ok record { cells = f.cells; depth = f.depth; entries = take n new }) old
 laid_down end n bs f old new p d =
     let l : length (take n new) ≡ n = omega (arith, entries_length end n [] bs (take n new) p) in
     sym (take-append-drop n new) ∙ ap (λ r. take n new ++ r) (d ∙ ap (λ m. drop m old) (sym l))

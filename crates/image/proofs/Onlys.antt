@@ -5,7 +5,7 @@ use Rattle.base.specs.Refusals.{refuse}
 use Rattle.base.specs.Ops.{operands_of}
 use Rattle.base.specs.declared.instr.Instr.{Instr}
 use Rattle.image.specs.Codes.{named_bytes, entry_bytes, body_bytes, unnamed_zero, good_entry}
-use Rattle.image.specs.Groups.{written, more, number, zeros_first}
+use Rattle.image.specs.Groups.{number_bytes, more, number, zeros_first}
 use Rattle.image.specs.Reading.{operands_at, entry_at, entries_at}
 use Rattle.image.specs.Theorems.{Bytes, Entries}
 use Rattle.image.proofs.Inverse.{clash, same, then_ok}
@@ -23,18 +23,18 @@ all_bytes [] h = tt
 all_bytes (b ∷ bs) h = (h 0, all_bytes bs (λ i. h (suc i)))
 
 -- what is written as one, two or three groups
-only_1 : (n a : ℕ) (rest : List ℕ) → a < 128 → n ≡ a → a ∷ rest ≡ written n ++ rest
+only_1 : (n a : ℕ) (rest : List ℕ) → a < 128 → n ≡ a → a ∷ rest ≡ number_bytes n ++ rest
 only_1 n a rest h v = by_form (form n)
   where
-    by_form : Form n → a ∷ rest ≡ written n ++ rest
+    by_form : Form n → a ∷ rest ≡ number_bytes n ++ rest
     by_form (short g c e) = let d : n % 128 ≡ a = omega arith in rw (e, d)
     by_form (middle g i c e) = absurd (omega arith)
     by_form (long g c e) = absurd (omega arith)
 
-only_2 : (n a b : ℕ) (rest : List ℕ) → 128 < a → a < 256 → b < 128 → n ≡ a % 128 * 128 + b → a ∷ b ∷ rest ≡ written n ++ rest
+only_2 : (n a b : ℕ) (rest : List ℕ) → 128 < a → a < 256 → b < 128 → n ≡ a % 128 * 128 + b → a ∷ b ∷ rest ≡ number_bytes n ++ rest
 only_2 n a b rest h k l v = by_form (form n)
   where
-    by_form : Form n → a ∷ b ∷ rest ≡ written n ++ rest
+    by_form : Form n → a ∷ b ∷ rest ≡ number_bytes n ++ rest
     by_form (short g c e) = absurd (omega arith)
     by_form (middle g i c e) =
         let x : n / 128 % 128 + 128 ≡ a = omega arith in
@@ -42,10 +42,10 @@ only_2 n a b rest h k l v = by_form (form n)
         rw (e, x, y)
     by_form (long g c e) = absurd (omega arith)
 
-only_3 : (n a b d : ℕ) (rest : List ℕ) → 128 < a → a < 256 → 128 ≤ b → b < 256 → d < 128 → n ≡ a % 128 * 16384 + b % 128 * 128 + d → a ∷ b ∷ d ∷ rest ≡ written n ++ rest
+only_3 : (n a b d : ℕ) (rest : List ℕ) → 128 < a → a < 256 → 128 ≤ b → b < 256 → d < 128 → n ≡ a % 128 * 16384 + b % 128 * 128 + d → a ∷ b ∷ d ∷ rest ≡ number_bytes n ++ rest
 only_3 n a b d rest h k i j l v = by_form (form n)
   where
-    by_form : Form n → a ∷ b ∷ d ∷ rest ≡ written n ++ rest
+    by_form : Form n → a ∷ b ∷ d ∷ rest ≡ number_bytes n ++ rest
     by_form (short g c e) = absurd (omega arith)
     by_form (middle g f c e) = absurd (omega arith)
     by_form (long g c e) =
@@ -88,7 +88,7 @@ full end at v (b ∷ bs) n rest h p = by_step (step end at v b bs n rest p)
 
 -- bytes that begin with a number, and the bytes after it
 pub record Only (n : ℕ) (bs rest : List ℕ) : Type 0 where
-  pub is : bs ≡ written n ++ rest
+  pub is : bs ≡ number_bytes n ++ rest
   pub small : n < 65536
   pub left : AllBytes rest
 
@@ -101,7 +101,7 @@ after_two end at a b (d ∷ ds) n rest h k i j all p = by_step (step end at _ d 
     by_step : Step end at ((0 * 128 + a % 128) * 128 + b % 128) d ds n rest → Only n (a ∷ b ∷ d ∷ ds) rest
     by_step (last l m e f) =
         let v : n ≡ a % 128 * 16384 + b % 128 * 128 + d = omega arith in
-        record { is = only_3 n a b d ds h k i j l v ∙ ap (λ r. written n ++ r) f; small = omega arith; left = subst AllBytes f all.1 }
+        record { is = only_3 n a b d ds h k i j l v ∙ ap (λ r. number_bytes n ++ r) f; small = omega arith; left = subst AllBytes f all.1 }
     by_step (on l m e) = absurd (full end at _ ds n rest (omega arith) e)
 
 -- after the first byte
@@ -113,7 +113,7 @@ after_one end at a (b ∷ bs) n rest h k all p = by_step (step end at _ b bs n r
     by_step : Step end at (0 * 128 + a % 128) b bs n rest → Only n (a ∷ b ∷ bs) rest
     by_step (last l m e f) =
         let v : n ≡ a % 128 * 128 + b = omega arith in
-        record { is = only_2 n a b bs h k l v ∙ ap (λ r. written n ++ r) f; small = omega arith; left = subst AllBytes f all.1 }
+        record { is = only_2 n a b bs h k l v ∙ ap (λ r. number_bytes n ++ r) f; small = omega arith; left = subst AllBytes f all.1 }
     by_step (on l m e) = after_two end at a b bs n rest h k l all.0 all.1 e
 
 from_first : (end at : ℕ) (bs : List ℕ) (n : ℕ) (rest : List ℕ) → AllBytes bs → zeros_first bs ≡ false → more end at 0 bs ≡ got n rest → Only n bs rest
@@ -123,7 +123,7 @@ from_first end at (a ∷ bs) n rest all z p = by_step (step end at 0 a bs n rest
     by_step : Step end at 0 a bs n rest → Only n (a ∷ bs) rest
     by_step (last l m e f) =
         let v : n ≡ a = omega arith in
-        record { is = only_1 n a bs l v ∙ ap (λ r. written n ++ r) f; small = omega arith; left = subst AllBytes f all.1 }
+        record { is = only_1 n a bs l v ∙ ap (λ r. number_bytes n ++ r) f; small = omega arith; left = subst AllBytes f all.1 }
     by_step (on l m e) = after_one end at a bs n rest (omega (arith, eqb-false a 128 z)) all.0 all.1 e
 
 pub number_only : (end : ℕ) (bs : List ℕ) (n : ℕ) (rest : List ℕ) → AllBytes bs → number end bs ≡ got n rest → Only n bs rest
@@ -164,7 +164,7 @@ operands_only end at m (Some (suc (suc o))) bs i rest all p =
       zero_is = refl;
       a_small = a.small;
       b_small = b.small;
-      is = a.is ∙ ap (λ r. written x.0.0 ++ r) b.is ∙ sym (append_assoc (written x.0.0) (written y.0.0) y.0.1);
+      is = a.is ∙ ap (λ r. number_bytes x.0.0 ++ r) b.is ∙ sym (append_assoc (number_bytes x.0.0) (number_bytes y.0.0) y.0.1);
       left = b.left;
     }
 
@@ -184,10 +184,10 @@ entry_only end bs i rest all p =
     let m = number_only end bs x.0.0 x.0.1 all x.1 in
     let w = operands_only end _ x.0.0 (operands_of x.0.0) x.0.1 i rest m.left x.2 in
     let e : x.0.0 ≡ i.number = sym w.number_is in
-    let s : bs ≡ written x.0.0 ++ (named_bytes (operands_of x.0.0) i.a i.b ++ rest) = m.is ∙ ap (λ r. written x.0.0 ++ r) w.is in
+    let s : bs ≡ number_bytes x.0.0 ++ (named_bytes (operands_of x.0.0) i.a i.b ++ rest) = m.is ∙ ap (λ r. number_bytes x.0.0 ++ r) w.is in
     record {
-      is = subst (λ j. bs ≡ written j ++ (named_bytes (operands_of j) i.a i.b ++ rest)) e s
-          ∙ sym (append_assoc (written i.number) (named_bytes (operands_of i.number) i.a i.b) rest);
+      is = subst (λ j. bs ≡ number_bytes j ++ (named_bytes (operands_of j) i.a i.b ++ rest)) e s
+          ∙ sym (append_assoc (number_bytes i.number) (named_bytes (operands_of i.number) i.a i.b) rest);
       good = subst (λ j. unnamed_zero (operands_of j) i.a i.b ≡ true) e w.zero_is;
       number_small = subst (λ j. j < 65536) e m.small;
       a_small = w.a_small;

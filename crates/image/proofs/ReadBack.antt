@@ -6,7 +6,7 @@ use Rattle.base.specs.declared.instr.Instr.{Instr}
 use Rattle.base.specs.declared.refusal.Refusal.{Refusal}
 use Rattle.base.specs.declared.code.Figures.{Figures}
 use Rattle.image.specs.Codes.{Code, named_bytes, entry_bytes, body_bytes, image, unnamed_zero, good_entry, good_header}
-use Rattle.image.specs.Groups.{written, number}
+use Rattle.image.specs.Groups.{number_bytes, number}
 use Rattle.image.specs.Reading.{Read, operands_at, entry_at, entries_at, figures_at}
 use Rattle.image.specs.Theorems.{Entries, ReadsBack}
 use Rattle.image.proofs.Inverse.{decoded_from}
@@ -46,10 +46,10 @@ number_3 end n a b c rest h k i j l s e =
     starts end at (a ∷ b ∷ c ∷ rest) refl (ne_eqb a 128 (omega arith)) ∙ more_on end at 0 a (b ∷ c ∷ rest) p r
     ∙ more_on end at u b (c ∷ rest) q i ∙ more_last end at w c rest t l ∙ ap (λ m. got m rest) v
 
-pub number_written : (end n : ℕ) (rest : List ℕ) → n < 65536 → number end (written n ++ rest) ≡ got n rest
+pub number_written : (end n : ℕ) (rest : List ℕ) → n < 65536 → number end (number_bytes n ++ rest) ≡ got n rest
 number_written end n rest s = by_form (form n)
   where
-    by_form : Form n → number end (written n ++ rest) ≡ got n rest
+    by_form : Form n → number end (number_bytes n ++ rest) ≡ got n rest
     by_form (short h c e) =
         rw e (number_1 end n (n % 128) rest (omega arith) (omega arith))
     by_form (middle g h c e) =
@@ -68,14 +68,14 @@ operands_written end at i (Some zero) rest z p q =
 operands_written end at i (Some (suc zero)) rest z p q =
     rw (number_written end i.a rest p) (ap (λ x. one (record { number = i.number; a = i.a; b = x }) rest) (sym (eqb-true i.b 0 z)))
 operands_written end at i (Some (suc (suc m))) rest z p q =
-    rw (append_assoc (written i.a) (written i.b) rest)
-    (rw (number_written end i.a (written i.b ++ rest) p) (rw (number_written end i.b rest q)))
+    rw (append_assoc (number_bytes i.a) (number_bytes i.b) rest)
+    (rw (number_written end i.a (number_bytes i.b ++ rest) p) (rw (number_written end i.b rest q)))
 
 entry_written : (end : ℕ) (i : Instr) (rest : List ℕ) → good_entry i ≡ true → i.number < 65536 → i.a < 65536 → i.b < 65536 → entry_at end (entry_bytes i ++ rest) ≡ one i rest
 unfolding entry_at entry_bytes good_entry
 entry_written end i rest g n p q =
     let o = operands_of i.number in
-    rw (append_assoc (written i.number) (named_bytes o i.a i.b) rest)
+    rw (append_assoc (number_bytes i.number) (named_bytes o i.a i.b) rest)
     (rw (number_written end i.number (named_bytes o i.a i.b ++ rest) n) (operands_written end _ i o rest g p q))
 
 abbrev all : List Instr → Result (List Instr) Refusal
@@ -95,14 +95,14 @@ abbrev three : ℕ → ℕ → ℕ → List ℕ → Read Figures
 three c d n bs = Ok (record { cells = c; depth = d; count = n }, bs)
 
 figures_written : (end room c d n : ℕ) (rest : List ℕ) → c ≤ 4096 → d < 65536 → 1 ≤ n → n ≤ 16383 → n ≤ room →
-    figures_at end room (written c ++ (written d ++ (written n ++ rest))) ≡ three c d n rest
+    figures_at end room (number_bytes c ++ (number_bytes d ++ (number_bytes n ++ rest))) ≡ three c d n rest
 unfolding figures_at
 figures_written end room c d n rest few s some many within =
     let p : c < 65536 = omega arith in
     let q : n < 65536 = omega arith in
     let z : n ≡ 0 → ⊥ = λ e. omega arith in
-    rw (number_written end c (written d ++ (written n ++ rest)) p, le-ltb 4096 c few)
-    (rw (number_written end d (written n ++ rest) s)
+    rw (number_written end c (number_bytes d ++ (number_bytes n ++ rest)) p, le-ltb 4096 c few)
+    (rw (number_written end d (number_bytes n ++ rest) s)
     (rw (number_written end n rest q) (rw (ne_eqb n 0 z, le-ltb 16383 n many, le-ltb room n within))))
 
 -- the bounds of a header
@@ -114,7 +114,7 @@ header_bounds c n h =
     (leb-true c 4096 p.0, leb-true 1 n q.0, leb-true n 16383 q.1)
 
 -- an image, number by number
-pub image_parts : (k : Code) → image k ≡ written k.cells ++ (written k.depth ++ (written (length k.entries) ++ body_bytes k.entries))
+pub image_parts : (k : Code) → image k ≡ number_bytes k.cells ++ (number_bytes k.depth ++ (number_bytes (length k.entries) ++ body_bytes k.entries))
 unfolding image
 image_parts k = simp append_assoc
 

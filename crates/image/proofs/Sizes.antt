@@ -1,7 +1,7 @@
 -- How many groups a number takes.
 use Rattle.std.proofs.Common.{◌≡◌, ℕ, ◌+◌, ◌*◌, ◌/◌, ◌%◌, ◌^◌, ◌<◌, ◌≤◌, max, [], ◌∷◌, length, sym, ◌∙◌, ⊎_elim, arith, pow_mono}
 use Rattle.std.proofs.lemmas.Bool.{cases_lt, lt-ltb, le-ltb}
-use Rattle.image.specs.Groups.{count, written}
+use Rattle.image.specs.Groups.{count, number_bytes}
 
 -- of m bits
 pub counted : (n m : ℕ) → m ≤ 16 → n < 2 ^ m → 2 ^ m ≤ 2 * n + 1 → (max m 1 + 6) / 7 ≡ count n
@@ -36,12 +36,12 @@ counted n m top below above =
 
 -- what a number is written as, by how many groups it takes
 pub data Form (n : ℕ) : Type 0 where
-  short : n < 128 → count n ≡ 1 → written n ≡ (n % 128) ∷ [] → Form n
-  middle : 128 ≤ n → n < 16384 → count n ≡ 2 → written n ≡ (n / 128 % 128 + 128) ∷ (n % 128) ∷ [] → Form n
-  long : 16384 ≤ n → count n ≡ 3 → written n ≡ (n / 16384 + 128) ∷ (n / 128 % 128 + 128) ∷ (n % 128) ∷ [] → Form n
+  short : n < 128 → count n ≡ 1 → number_bytes n ≡ (n % 128) ∷ [] → Form n
+  middle : 128 ≤ n → n < 16384 → count n ≡ 2 → number_bytes n ≡ (n / 128 % 128 + 128) ∷ (n % 128) ∷ [] → Form n
+  long : 16384 ≤ n → count n ≡ 3 → number_bytes n ≡ (n / 16384 + 128) ∷ (n / 128 % 128 + 128) ∷ (n % 128) ∷ [] → Form n
 
 pub form : (n : ℕ) → Form n
-unfolding written
+unfolding number_bytes
 form n =
     ⊎_elim (λ h. short h (rw (lt-ltb n 128 h)) (rw (lt-ltb n 128 h)))
     (λ g.
@@ -50,10 +50,10 @@ form n =
     (cases_lt n 16384))
     (cases_lt n 128)
 
-pub length_written : (n : ℕ) → count n ≡ length (written n)
+pub length_written : (n : ℕ) → count n ≡ length (number_bytes n)
 length_written n = by_form (form n)
   where
-    by_form : Form n → count n ≡ length (written n)
+    by_form : Form n → count n ≡ length (number_bytes n)
     by_form (short h c e) = c ∙ sym (rw e)
     by_form (middle g h c e) = c ∙ sym (rw e)
     by_form (long g c e) = c ∙ sym (rw e)
@@ -66,26 +66,26 @@ count_small n = by_form (form n)
     by_form (middle g h c e) = omega (arith, c)
     by_form (long g c e) = omega (arith, c)
 
-pub written_one : (n : ℕ) → count n ≡ 1 → written n ≡ (n % 128) ∷ []
+pub written_one : (n : ℕ) → count n ≡ 1 → number_bytes n ≡ (n % 128) ∷ []
 written_one n k = by_form (form n)
   where
-    by_form : Form n → written n ≡ (n % 128) ∷ []
+    by_form : Form n → number_bytes n ≡ (n % 128) ∷ []
     by_form (short h c e) = e
     by_form (middle g h c e) = absurd (omega (arith, c, k))
     by_form (long g c e) = absurd (omega (arith, c, k))
 
-pub written_two : (n : ℕ) → count n ≡ 2 → written n ≡ (n / 128 % 128 + 128) ∷ (n % 128) ∷ []
+pub written_two : (n : ℕ) → count n ≡ 2 → number_bytes n ≡ (n / 128 % 128 + 128) ∷ (n % 128) ∷ []
 written_two n k = by_form (form n)
   where
-    by_form : Form n → written n ≡ (n / 128 % 128 + 128) ∷ (n % 128) ∷ []
+    by_form : Form n → number_bytes n ≡ (n / 128 % 128 + 128) ∷ (n % 128) ∷ []
     by_form (short h c e) = absurd (omega (arith, c, k))
     by_form (middle g h c e) = e
     by_form (long g c e) = absurd (omega (arith, c, k))
 
-pub written_three : (n : ℕ) → (count n ≡ 1 → ⊥) → (count n ≡ 2 → ⊥) → written n ≡ (n / 16384 + 128) ∷ (n / 128 % 128 + 128) ∷ (n % 128) ∷ []
+pub written_three : (n : ℕ) → (count n ≡ 1 → ⊥) → (count n ≡ 2 → ⊥) → number_bytes n ≡ (n / 16384 + 128) ∷ (n / 128 % 128 + 128) ∷ (n % 128) ∷ []
 written_three n k l = by_form (form n)
   where
-    by_form : Form n → written n ≡ (n / 16384 + 128) ∷ (n / 128 % 128 + 128) ∷ (n % 128) ∷ []
+    by_form : Form n → number_bytes n ≡ (n / 16384 + 128) ∷ (n / 128 % 128 + 128) ∷ (n % 128) ∷ []
     by_form (short h c e) = absurd (k c)
     by_form (middle g h c e) = absurd (l c)
     by_form (long g c e) = e

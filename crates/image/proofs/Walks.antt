@@ -4,7 +4,7 @@ use Rattle.base.specs.Refusals.{refuse}
 use Rattle.base.specs.declared.instr.Instr.{Instr}
 use Rattle.base.specs.declared.refusal.Refusal.{Refusal}
 use Rattle.image.specs.declared.fault.ImageFault.{ImageFault}
-use Rattle.image.specs.Cursors.{Ended, Walked, Filled}
+use Rattle.image.specs.Cursors.{EndsThere, AllAreRead, IsFilled}
 use Rattle.image.specs.Reading.{Read, entry_at, entries_at}
 
 -- an instruction and the bytes after it
@@ -43,7 +43,7 @@ module _ (end at n i : ℕ) (x : Result (List Instr) Refusal) (o : List Instr) (
       let v : entry_at end bs ≡ Err r = ap (λ m. entry_at m bs) (sym e) ∙ g in
       f ∙ entries_stop end (n - i) (n - (i + 1)) o bs r u v
 
-  pub walk_end : (r : Result (Unit {0}) ImageFault) → n ≤ i → Ended (entries_at at 0 o bs) o r → Ended x o r
+  pub walk_end : (r : Result (Unit {0}) ImageFault) → n ≤ i → EndsThere (entries_at at 0 o bs) o r → EndsThere x o r
   walk_end (Ok t) h g =
       let u : n - i ≡ 0 = omega arith in
       f ∙ ap (λ m. entries_at end m o bs) u ∙ ap (λ m. entries_at m 0 o bs) (sym e) ∙ g
@@ -51,11 +51,11 @@ module _ (end at n i : ℕ) (x : Result (List Instr) Refusal) (o : List Instr) (
       let u : n - i ≡ 0 = omega arith in
       f ∙ ap (λ m. entries_at end m o bs) u ∙ ap (λ m. entries_at m 0 o bs) (sym e) ∙ g
 
-pub walked : (x : Result (List Instr) Refusal) (o : List Instr) (r : Result (Unit {0}) ImageFault) → Ended x o r → Walked x r
+pub walked : (x : Result (List Instr) Refusal) (o : List Instr) (r : Result (Unit {0}) ImageFault) → EndsThere x o r → AllAreRead x r
 walked x o (Ok t) h = (o, h)
 walked x o (Err t) h = h
 
 -- the first m of the new entries were read, and from the place i on the old ones are there
-pub filled : (x : Result (List Instr) Refusal) (n : ℕ) (old new : List Instr) (r : Result (Unit {0}) ImageFault) (m i : ℕ) → m ≡ n → i ≡ n → Ended x (take m new) r → drop i new ≡ drop i old → Filled x n old new r
+pub filled : (x : Result (List Instr) Refusal) (n : ℕ) (old new : List Instr) (r : Result (Unit {0}) ImageFault) (m i : ℕ) → m ≡ n → i ≡ n → EndsThere x (take m new) r → drop i new ≡ drop i old → IsFilled x n old new r
 filled x n old new (Ok t) m i e f h d = (h ∙ ap (λ k. Ok (take k new)) e, ap (λ k. drop k new) (sym f) ∙ d ∙ ap (λ k. drop k old) f)
 filled x n old new (Err t) m i e f h d = h

@@ -33,7 +33,8 @@ pub enum ImageFault {
     /// Refusal 27: the room is shorter than the image. The place is how many bytes the image takes.
     #[error("the room is too short: the image takes this many bytes")]
     RoomShort(usize),
-    /// Refusal 28: an entry or the header is no code's. The place is the index of the entry, or 0 for the header.
+    /// Refusal 28: the header or an entry is not that of a code. The place is the index of the entry, or 0 for the
+    /// header.
     #[error("the entry or the header is no code's")]
     BadEntry(usize),
 }

@@ -1,11 +1,11 @@
 // An image is read into a table: first judged to its last byte, and only then put into the table.
 ghost use Rattle.std.specs.Prelude.{◌≡◌, ◌≤◌, List, [], length, take, IfOk};
-ghost use Rattle.image.specs.Codes.{coded};
+ghost use Rattle.image.specs.Codes.{code_from};
 ghost use Rattle.image.specs.Theorems.{ImageOf};
-ghost use Rattle.base.specs.declared.instr.Instr.{Instr as Entry};
-ghost use Rattle.image.specs.Cursors.{Walked, Ended, Filled, rest_of};
+ghost use Rattle.base.specs.declared.instr.Instr.{Instr as Record};
+ghost use Rattle.image.specs.Cursors.{AllAreRead, EndsThere, IsFilled, rest_of};
 ghost use Rattle.image.specs.Faults.{refusal_of};
-ghost use Rattle.image.specs.Reading.{entries_at, decoded, figured, laid};
+ghost use Rattle.image.specs.Reading.{entries_at, decoding, figures_of, table_after};
 ghost use Rattle.base.specs.Refusals.{told};
 
 use crate::cursor::Cursor;
@@ -17,17 +17,17 @@ use base::list::Bounded;
 impl<'a> Cursor<'a> {
     // Checks that no byte is left.
     fn ends(&self) -> Result<(), ImageFault>
-        ensures { (o : List Entry) → Ended (entries_at self.now.end 0 o (rest_of self.now)) o result }
+        ensures { (o : List Record) → EndsThere (entries_at self.now.end 0 o (rest_of self.now)) o result }
     {
         if self.rest.is_empty() {
             return Ok(());
         }
-        Err(ImageFault::BytesLeft(self.place()))
+        Err(ImageFault::BytesLeft(self.offset()))
     }
 
     // Reads `count` instructions and the end, and keeps nothing.
     fn walk(&mut self, count: u16) -> Result<(), ImageFault>
-        ensures { Walked (entries_at self.old.end count [] (rest_of self.old)) result }
+        ensures { AllAreRead (entries_at self.old.end count [] (rest_of self.old)) result }
     {
         for _ in 0..count {
             self.entry()?;
@@ -39,7 +39,7 @@ impl<'a> Cursor<'a> {
 // Reads `count` instructions and the end, and keeps the instructions in the table.
 fn fill(cursor: &mut Cursor<'_>, count: u16, table: &mut [Instr]) -> Result<(), ImageFault>
     requires { count ≤ length table.old }
-    ensures { Filled (entries_at cursor.old.end count [] (rest_of cursor.old)) count table.old table.new result }
+    ensures { IsFilled (entries_at cursor.old.end count [] (rest_of cursor.old)) count table.old table.new result }
 {
     let mut list = Bounded::new(table);
     for _ in 0..count {
@@ -54,9 +54,9 @@ fn fill(cursor: &mut Cursor<'_>, count: u16, table: &mut [Instr]) -> Result<(), 
 ///
 /// Refuses with 20 to 26 at the first fault; `ImageFault` says where each is met. A refusal leaves the table as it was.
 pub fn decode(bytes: &[u8], table: &mut [Instr]) -> Result<Figures, ImageFault>
-    ensures answer { told refusal_of result ≡ figured (decoded (length table.old) bytes.now) }
-    ensures after { table.new ≡ laid (decoded (length table.old) bytes.now) table.old }
-    ensures of { IfOk result (λ f. ImageOf (coded f.cells f.depth (take f.count table.new)) bytes.now) }
+    ensures answer { told refusal_of result ≡ figures_of (decoding (length table.old) bytes.now) }
+    ensures after { table.new ≡ table_after (decoding (length table.old) bytes.now) table.old }
+    ensures of { IfOk result (λ f. ImageOf (code_from f.cells f.depth (take f.count table.new)) bytes.now) }
 {
     let end = bytes.len();
     let mut cursor = Cursor { rest: bytes, end };

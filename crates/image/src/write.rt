@@ -1,20 +1,22 @@
 // A code is written as an image: first judged and measured, and only then put into the room.
 ghost use Rattle.std.specs.Prelude.{◌≡◌, ◌*◌, ◌<◌, ◌≤◌, true, [], ◌∷◌, ◌++◌, length, drop, IfSome, IfOk, Ok};
+ghost use Rattle.base.specs.Limits.{most_instructions};
 ghost use Rattle.image.specs.Codes.{code_of, entry_bytes, body_bytes, good_header, image};
-ghost use Rattle.image.specs.Groups.{written};
+ghost use Rattle.image.specs.Groups.{number_bytes};
 ghost use Rattle.image.specs.Faults.{refusal_of};
-ghost use Rattle.image.specs.Writing.{size_of, judged, encoded, counted, filled, HasRoom, Appended};
+ghost use Rattle.image.specs.Writing.{size_of, entry_refusal, encoding, byte_count, room_after, HasRoom, IsAppended};
 ghost use Rattle.base.specs.Refusals.{told, then};
 
 use crate::fault::ImageFault;
 use crate::groups::groups;
 use base::code::Code;
 use base::instr::{Instr, operands};
+use base::limits::{MOST_CELLS, MOST_INSTRUCTIONS};
 use base::list::Bounded;
 
 /// How many bytes a number takes in an image, 1 to 3.
 pub fn size(n: u16) -> usize
-    ensures value { result ≡ length (written n) }
+    ensures value { result ≡ length (number_bytes n) }
     ensures small { result ≤ 3 }
 {
     groups(n) as usize
@@ -37,15 +39,15 @@ pub fn entry_size(i: Instr) -> Option<usize>
 
 fn add(out: &mut Bounded<'_, u8>, b: u8)
     requires { HasRoom out.old (b ∷ []) }
-    ensures { Appended out.old (b ∷ []) out.new }
+    ensures { IsAppended out.old (b ∷ []) out.new }
 {
     let _ = out.push(b);
 }
 
 // Writes the groups of a number, the high one first.
 fn put(out: &mut Bounded<'_, u8>, n: u16)
-    requires { HasRoom out.old (written n) }
-    ensures { Appended out.old (written n) out.new }
+    requires { HasRoom out.old (number_bytes n) }
+    ensures { IsAppended out.old (number_bytes n) out.new }
 {
     let low = (n % 128) as u8;
     let middle = (n / 128 % 128) as u8 + 128;
@@ -67,7 +69,7 @@ fn put(out: &mut Bounded<'_, u8>, n: u16)
 // Writes an instruction's number, then the operands that it names.
 fn put_entry(out: &mut Bounded<'_, u8>, i: Instr)
     requires { HasRoom out.old (entry_bytes i) }
-    ensures { Appended out.old (entry_bytes i) out.new }
+    ensures { IsAppended out.old (entry_bytes i) out.new }
 {
     put(out, i.number);
     match operands(i.number) {
@@ -84,7 +86,7 @@ fn put_entry(out: &mut Bounded<'_, u8>, i: Instr)
 // Writes the instructions from first to last.
 fn put_body(out: &mut Bounded<'_, u8>, code: &[Instr])
     requires { HasRoom out.old (body_bytes code.now) }
-    ensures { Appended out.old (body_bytes code.now) out.new }
+    ensures { IsAppended out.old (body_bytes code.now) out.new }
 {
     for entry in code {
         put_entry(out, *entry);
@@ -93,16 +95,16 @@ fn put_body(out: &mut Bounded<'_, u8>, code: &[Instr])
 
 fn good_header(cells: u16, count: usize) -> bool
     ensures value { result ≡ good_header cells count }
-    ensures few { result ≡ true → count ≤ 16383 }
+    ensures few { result ≡ true → count ≤ most_instructions }
 {
-    cells <= 4096 && count >= 1 && count <= 16383
+    cells <= MOST_CELLS && count >= 1 && count <= MOST_INSTRUCTIONS
 }
 
 // Judges the entries from first to last, and answers how many bytes they take.
 fn measure(code: &[Instr]) -> Result<usize, ImageFault>
-    requires { length code.now ≤ 16383 }
-    ensures answer { told refusal_of result ≡ then (judged 0 code.now) (λ _. Ok (length (body_bytes code.now))) }
-    ensures small { IfOk result (λ n. n ≤ 9 * 16383) }
+    requires { length code.now ≤ most_instructions }
+    ensures answer { told refusal_of result ≡ then (entry_refusal 0 code.now) (λ _. Ok (length (body_bytes code.now))) }
+    ensures small { IfOk result (λ n. n ≤ 9 * most_instructions) }
 {
     let mut bytes = 0;
     for (i, entry) in code.iter().enumerate() {
@@ -117,7 +119,7 @@ fn measure(code: &[Instr]) -> Result<usize, ImageFault>
 
 // Puts the image of a good code at the front of the room.
 fn lay(code: Code<'_>, out: &mut [u8])
-    requires { (length code.instructions.now ≤ 16383) × (length (image (code_of code)) ≤ length out.old) }
+    requires { (length code.instructions.now ≤ most_instructions) × (length (image (code_of code)) ≤ length out.old) }
     ensures { out.new ≡ image (code_of code.entry) ++ drop (length (image (code_of code.entry))) out.old }
 {
     let mut list = Bounded::new(out);
@@ -135,8 +137,8 @@ fn lay(code: Code<'_>, out: &mut [u8])
 /// with 27 where the room is shorter than the image; the place is how many bytes the image takes. A refusal leaves the room
 /// as it was.
 pub fn encode(code: Code<'_>, out: &mut [u8]) -> Result<usize, ImageFault>
-    ensures answer { told refusal_of result ≡ counted (encoded (length out.old) (code_of code.entry)) }
-    ensures after { out.new ≡ filled (encoded (length out.old) (code_of code.entry)) out.old }
+    ensures answer { told refusal_of result ≡ byte_count (encoding (length out.old) (code_of code.entry)) }
+    ensures after { out.new ≡ room_after (encoding (length out.old) (code_of code.entry)) out.old }
 {
     let count = code.instructions.len();
     if !good_header(code.cells, count) {

@@ -6,9 +6,11 @@ use Rattle.base.specs.declared.op.Op.{Op}
 use Rattle.base.specs.declared.op.Op.TheVariants as op
 use Rattle.base.specs.Ops.{number_of}
 
+-- The instruction record with this number and these operands.
 abbrev pub ins : ℕ → ℕ → ℕ → Instr
 ins n a b = record { number = n; a = a; b = b }
 
+-- The record of an instruction with these operands.
 abbrev pub of : Op → ℕ → ℕ → Instr
 of o a b = ins (number_of o) a b
 
@@ -57,7 +59,7 @@ FOR c t = of op.For c t
 abbrev pub NEXT : ℕ → ℕ → Instr
 NEXT c t = of op.Next c t
 
--- the largest running total of pushes less pops, in the order of the code, from h on
+-- The largest number of words stacked in the code, if h are stacked before it, counted in the order of the code.
 unfoldable pub peak : ℕ → List Instr → ℕ
 peak h [] = h
 peak h (i ∷ is) = max h (peak (height i h) is)

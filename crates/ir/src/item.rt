@@ -1,7 +1,7 @@
-// The entries of the typed list.
+// The items of the typed list.
 use base::instr::Instr;
 
-/// One entry of the typed list: an instruction, or a marker for control.
+/// One item of the typed list: an instruction, or a marker for control.
 #[derive(Clone, Copy, PartialEq, Eq, Debug)]
 pub enum Item {
     /// An instruction that goes into the code as it stands.

@@ -1,4 +1,4 @@
-// The typed list of a source: names replaced by cells, operators by the instructions of their type.
+// The typed list of a source: names are replaced by cells, and operators by the instructions of their type.
 #![tactic(auto)]
 
 pub mod item;

@@ -10,13 +10,13 @@ use Rattle.base.specs.Refusals.{refuse}
 use Rattle.lexer.specs.declared.token.Token.{Token}
 use Rattle.lexer.specs.declared.fault.TextFault.{TextFault}
 use Rattle.lexer.specs.declared.token.Symbol.{Symbol}
-use Rattle.lexer.specs.declared.token.Kind.{Kind}
-use Rattle.lexer.specs.declared.token.Kind.TheVariants.{Integer, Logical}
+use Rattle.lexer.specs.declared.token.Radix.{Radix}
+use Rattle.lexer.specs.declared.token.Radix.TheVariants.{Decimal, Octal}
 use Rattle.lexer.proofs.FirstBytes.{symbol_long}
 use Rattle.lexer.proofs.Signs.{Stands, sign_stands}
-use Rattle.lexer.specs.Lexemes.{Start, Letter, Decimal, Percent, Comment, Other, capital, digit, opens, symbol_text, start_of, sign_of, word_byte, digit_of, base_of, most_of, value_of, within, gap_of}
+use Rattle.lexer.specs.Lexemes.{Start, Letter, Digit, Percent, Comment, Other, capital, digit, opens, symbol_text, start_of, sign_of, word_byte, digit_of, base_of, most_of, value_of, within, gap_of}
 use Rattle.lexer.specs.Faults.{refusal_of}
-use Rattle.lexer.specs.Cut.{Cut, Next, Short, rested, symbol, onward, width_of, after, first_of, piece, Piece, word, lexed, word_of, symbol_of, Front, good, next_of, Steps, number_of, valued, past, lexeme, cut, left, fault}
+use Rattle.lexer.specs.Cut.{Cut, Next, Short, with_rest, symbol, onward, width_of, after, first_of, piece, Piece, word, front_from, word_of, symbol_of, Front, good, next_of, Steps, number_of, number_with_value, past, lexeme, cut, tokens_left, fault}
 
 -- to skip is to drop
 past_skips : (k : ℕ) (bs : List ℕ) → past k bs ≡ past 0 (drop k bs)
@@ -40,16 +40,16 @@ past_more (b ∷ bs) (suc k) e h =
     rw (g, f, past_skips k bs)
 
 -- a number of n digits, as the code finds it
-module _ (p lead n : ℕ) (kind : Kind) (xs : List ℕ) (ne : n ≡ prefix_len (digit_of kind) (take (length xs - lead) (drop lead xs))) where
-  run : prefix_len (digit_of kind) (drop lead xs) ≡ n
+module _ (p lead n : ℕ) (radix : Radix) (xs : List ℕ) (ne : n ≡ prefix_len (digit_of radix) (take (length xs - lead) (drop lead xs))) where
+  run : prefix_len (digit_of radix) (drop lead xs) ≡ n
   run = rw (← take_rest xs lead) (sym ne)
 
-  pub number_none : n ≡ 0 → refuse 3 p ≡ number_of p lead (prefix_len (digit_of kind) (drop lead xs)) kind xs
+  pub number_none : n ≡ 0 → refuse 3 p ≡ number_of p lead (prefix_len (digit_of radix) (drop lead xs)) radix xs
   number_none z = rw (run, z)
 
-  pub number_valued : (o : Option ℕ) → (n ≡ 0 → ⊥) → o ≡ within (most_of kind) (value_of (base_of kind) 0 (take n (take (length xs - lead) (drop lead xs)))) →
-      valued p (lead + n) kind xs o ≡ number_of p lead (prefix_len (digit_of kind) (drop lead xs)) kind xs
-  number_valued o z e = rw (run, ne_eqb n 0 z) (ap (valued p (lead + n) kind xs) (e ∙ rw (take_rest xs lead)))
+  pub number_valued : (o : Option ℕ) → (n ≡ 0 → ⊥) → o ≡ within (most_of radix) (value_of (base_of radix) 0 (take n (take (length xs - lead) (drop lead xs)))) →
+      number_with_value p (lead + n) radix xs o ≡ number_of p lead (prefix_len (digit_of radix) (drop lead xs)) radix xs
+  number_valued o z e = rw (run, ne_eqb n 0 z) (ap (number_with_value p (lead + n) radix xs) (e ∙ rw (take_rest xs lead)))
 
 -- a token and the text after it
 abbrev pub got : Piece → List ℕ → Next
@@ -57,17 +57,17 @@ got t rest = Ok (Some (t, rest))
 
 -- a symbol, as the code finds it
 module _ (p : ℕ) (xs : List ℕ) where
-  pub symbol_found : (s : Symbol) (rest : List ℕ) → Some (s, rest) ≡ option_map (rested xs) (sign_of xs) → Ok (Some (symbol s p, rest)) ≡ after xs (symbol_of p (sign_of xs))
+  pub symbol_found : (s : Symbol) (rest : List ℕ) → Some (s, rest) ≡ option_map (with_rest xs) (sign_of xs) → Ok (Some (symbol s p, rest)) ≡ after xs (symbol_of p (sign_of xs))
   symbol_found s rest e = by (sign_of xs) e
     where
-      by : (o : Option (Symbol × ℕ)) → Some (s, rest) ≡ option_map (rested xs) o → Ok (Some (symbol s p, rest)) ≡ after xs (symbol_of p o)
+      by : (o : Option (Symbol × ℕ)) → Some (s, rest) ≡ option_map (with_rest xs) o → Ok (Some (symbol s p, rest)) ≡ after xs (symbol_of p o)
       by None q = cc
-      by (Some r) q = let j : (s, rest) ≡ rested xs r = cc in ap (λ (v : Symbol × List ℕ). got (symbol v.0 p) v.1) j
+      by (Some r) q = let j : (s, rest) ≡ with_rest xs r = cc in ap (λ (v : Symbol × List ℕ). got (symbol v.0 p) v.1) j
 
-  pub symbol_none : None ≡ option_map (rested xs) (sign_of xs) → refuse 2 p ≡ after xs (symbol_of p (sign_of xs))
+  pub symbol_none : None ≡ option_map (with_rest xs) (sign_of xs) → refuse 2 p ≡ after xs (symbol_of p (sign_of xs))
   symbol_none e = by (sign_of xs) e
     where
-      by : (o : Option (Symbol × ℕ)) → None ≡ option_map (rested xs) o → refuse 2 p ≡ after xs (symbol_of p o)
+      by : (o : Option (Symbol × ℕ)) → None ≡ option_map (with_rest xs) o → refuse 2 p ≡ after xs (symbol_of p o)
       by None q = refl
       by (Some s) q = cc
 
@@ -82,14 +82,14 @@ sign_wide p xs (Some f) h =
     let e : length xs ≡ length (symbol_text f.0) + length h.1.0 = ap length h.1.1 ∙ length-append (symbol_text f.0) h.1.0 in
     (omega (arith, h.0, symbol_long f.0), omega (arith, h.0))
 
-number_wide : (p lead n : ℕ) (kind : Kind) (xs : List ℕ) → lead + n ≤ length xs → Wide (length xs) (number_of p lead n kind xs)
-number_wide p lead n kind xs h =
-    cond_both (eqb n 0) (refuse 3 p) (valued p (lead + n) kind xs found) (Wide (length xs)) (λ e. tt) (λ e. by found (eqb-false n 0 e))
+number_wide : (p lead n : ℕ) (radix : Radix) (xs : List ℕ) → lead + n ≤ length xs → Wide (length xs) (number_of p lead n radix xs)
+number_wide p lead n radix xs h =
+    cond_both (eqb n 0) (refuse 3 p) (number_with_value p (lead + n) radix xs found) (Wide (length xs)) (λ e. tt) (λ e. by found (eqb-false n 0 e))
   where
     found : Option ℕ
-    found = within (most_of kind) (value_of (base_of kind) 0 (take n (drop lead xs)))
+    found = within (most_of radix) (value_of (base_of radix) 0 (take n (drop lead xs)))
 
-    by : (o : Option ℕ) → (n ≡ 0 → ⊥) → Wide (length xs) (valued p (lead + n) kind xs o)
+    by : (o : Option ℕ) → (n ≡ 0 → ⊥) → Wide (length xs) (number_with_value p (lead + n) radix xs o)
     by None z = tt
     by (Some v) z = (omega arith, h)
 
@@ -99,7 +99,7 @@ word_wide p n xs h l = cond_both (leb n 15) (good (word (take n xs) p) n) (refus
 -- what the first byte says
 abbrev pub Starts : ℕ → List ℕ → Start → Type 0
 Starts b bs Letter = capital b ≡ true
-Starts b bs Decimal = digit b ≡ true
+Starts b bs Digit = digit b ≡ true
 Starts b bs Percent = b ≡ 37
 Starts b bs Comment = opens (b ∷ bs) ≡ true
 Starts b bs Other = (capital b ≡ false) × (digit b ≡ false) × (b ≡ 37 → ⊥) × (opens (b ∷ bs) ≡ false)
@@ -107,7 +107,7 @@ Starts b bs Other = (capital b ≡ false) × (digit b ≡ false) × (b ≡ 37 �
 pub starts : (b : ℕ) (bs : List ℕ) → Starts b bs (start_of (b ∷ bs))
 starts b bs =
     cond_both (capital b) Letter _ (Starts b bs) (λ e. e)
-    (λ e. cond_both (digit b) Decimal _ (Starts b bs) (λ f. f)
+    (λ e. cond_both (digit b) Digit _ (Starts b bs) (λ f. f)
     (λ f. cond_both (eqb b 37) Percent _ (Starts b bs) (λ g. eqb-true b 37 g)
     (λ g. cond_both (opens (b ∷ bs)) Comment Other (Starts b bs) (λ h. h) (λ h. (e, f, eqb-false b 37 g, h)))))
 
@@ -115,11 +115,11 @@ letter_first : (xs : List ℕ) → start_of xs ≡ Letter → 0 < prefix_len wor
 letter_first [] e = cc
 letter_first (b ∷ bs) e = let c : capital b ≡ true = subst (Starts b bs) e (starts b bs) in rw c (omega arith)
 
-lexed_wide : (p : ℕ) (xs : List ℕ) (st : Start) → start_of xs ≡ st → Wide (length xs) (lexed p xs st)
+lexed_wide : (p : ℕ) (xs : List ℕ) (st : Start) → start_of xs ≡ st → Wide (length xs) (front_from p xs st)
 lexed_wide p xs Letter e = word_wide p (prefix_len word_byte xs) xs (letter_first xs e) (prefix_len-le-length word_byte xs)
-lexed_wide p xs Decimal e = number_wide p 0 (prefix_len (digit_of Integer) xs) Integer xs (omega (arith, prefix_len-le-length (digit_of Integer) xs))
+lexed_wide p xs Digit e = number_wide p 0 (prefix_len (digit_of Decimal) xs) Decimal xs (omega (arith, prefix_len-le-length (digit_of Decimal) xs))
 lexed_wide p [] Percent e = cc
-lexed_wide p (b ∷ bs) Percent e = number_wide p 1 (prefix_len (digit_of Logical) bs) Logical (b ∷ bs) (omega (arith, prefix_len-le-length (digit_of Logical) bs))
+lexed_wide p (b ∷ bs) Percent e = number_wide p 1 (prefix_len (digit_of Octal) bs) Octal (b ∷ bs) (omega (arith, prefix_len-le-length (digit_of Octal) bs))
 lexed_wide p xs Comment e = tt
 lexed_wide p xs Other e = sign_wide p xs (sign_of xs) (sign_stands xs)
 
@@ -132,13 +132,13 @@ abbrev ShortFront : Front → Type 0
 ShortFront (Ok f) = Short f.0
 ShortFront (Err e) = Unit {0}
 
-short_number : (p lead n : ℕ) (kind : Kind) (xs : List ℕ) → ShortFront (number_of p lead n kind xs)
-short_number p lead n kind xs = cond_both (eqb n 0) (refuse 3 p) (valued p (lead + n) kind xs found) ShortFront (λ e. tt) (λ e. by found)
+short_number : (p lead n : ℕ) (radix : Radix) (xs : List ℕ) → ShortFront (number_of p lead n radix xs)
+short_number p lead n radix xs = cond_both (eqb n 0) (refuse 3 p) (number_with_value p (lead + n) radix xs found) ShortFront (λ e. tt) (λ e. by found)
   where
     found : Option ℕ
-    found = within (most_of kind) (value_of (base_of kind) 0 (take n (drop lead xs)))
+    found = within (most_of radix) (value_of (base_of radix) 0 (take n (drop lead xs)))
 
-    by : (o : Option ℕ) → ShortFront (valued p (lead + n) kind xs o)
+    by : (o : Option ℕ) → ShortFront (number_with_value p (lead + n) radix xs o)
     by None = tt
     by (Some v) = tt
 
@@ -146,12 +146,12 @@ short_symbol : (p : ℕ) (o : Option (Symbol × ℕ)) → ShortFront (symbol_of 
 short_symbol p None = tt
 short_symbol p (Some f) = tt
 
-lexed_short : (p : ℕ) (xs : List ℕ) (st : Start) → ShortFront (lexed p xs st)
+lexed_short : (p : ℕ) (xs : List ℕ) (st : Start) → ShortFront (front_from p xs st)
 lexed_short p xs Letter =
     let n = prefix_len word_byte xs in
     cond_both (leb n 15) (good (word (take n xs) p) n) (refuse 3 p) ShortFront (λ e. omega (arith, leb-true n 15 e, length-take n xs)) (λ e. tt)
-lexed_short p xs Decimal = short_number p 0 (prefix_len (digit_of Integer) (drop 0 xs)) Integer xs
-lexed_short p xs Percent = short_number p 1 (prefix_len (digit_of Logical) (drop 1 xs)) Logical xs
+lexed_short p xs Digit = short_number p 0 (prefix_len (digit_of Decimal) (drop 0 xs)) Decimal xs
+lexed_short p xs Percent = short_number p 1 (prefix_len (digit_of Octal) (drop 1 xs)) Octal xs
 lexed_short p xs Comment = tt
 lexed_short p xs Other = short_symbol p (sign_of xs)
 
@@ -231,7 +231,7 @@ abbrev Answer : Type 0
 Answer = Result (Option (Token × Bor (List ℕ))) TextFault
 
 pub steps_none : (end : ℕ) (bs xs : List ℕ) → xs ≡ past 0 bs → length xs ≡ 0 → Steps end bs (Ok None)
-unfolding left fault cut
+unfolding tokens_left fault cut
 steps_none end bs [] e h = let c : cut end 0 bs ≡ cut end 0 [] = cut_past end 0 bs ∙ ap (cut end 0) (sym e) in (ap (λ (v : Cut). v.tokens) c, ap (λ (v : Cut). v.fault) c)
 steps_none end bs (x ∷ xs) e h = absurd (omega arith)
 
@@ -242,14 +242,14 @@ module _ (end : ℕ) (bs xs : List ℕ) (e : xs ≡ past 0 bs) (h : length xs �
       ∙ cut_front end xs f (ap gap_of e ∙ past_stops 0 bs) h (sym l) (subst (Wide (length xs)) (sym l) (lexeme_wide (end - length xs) xs))
 
   pub steps_refused : (f : TextFault) → Err (refusal_of f) ≡ after xs (lexeme (end - length xs) xs) → Steps end bs (Err f)
-  unfolding left fault
+  unfolding tokens_left fault
   steps_refused f l =
       let c = whole (Err (refusal_of f)) (sym (refused xs (refusal_of f) (lexeme (end - length xs) xs) l)) in
       (ap (λ (v : Cut). v.tokens) c, ap (λ (v : Cut). v.fault) c)
 
   pub steps_token : (t : Token) (rest : List ℕ) → got (piece t) rest ≡ after xs (lexeme (end - length xs) xs) →
-      (left end bs ≡ piece t ∷ left end rest) × (fault end bs ≡ fault end rest) × (length rest < length bs)
-  unfolding left fault
+      (tokens_left end bs ≡ piece t ∷ tokens_left end rest) × (fault end bs ≡ fault end rest) × (length rest < length bs)
+  unfolding tokens_left fault
   steps_token t rest l =
       let k = taken xs (piece t) rest (lexeme (end - length xs) xs) l in
       let n = k.0 in

@@ -4,12 +4,12 @@ use Rattle.std.proofs.lemmas.Bool.{cases_Bool, or_from, ne_eqb, and_parts, and_l
 use Rattle.std.specs.List.{prefix_len}
 use Rattle.lexer.specs.declared.token.Symbol.{Symbol}
 use Rattle.lexer.specs.declared.token.Symbol.TheVariants as sym·
-use Rattle.lexer.specs.Lexemes.{Start, Letter, Decimal, Percent, Comment, Other, blank, capital, digit, opens, symbol_text}
-use Rattle.lexer.specs.Forms.{AllOf, WordForm, IntegerForm, LogicalForm, SymbolForm, Form}
+use Rattle.lexer.specs.Lexemes.{Start, Letter, Digit, Percent, Comment, Other, blank, capital, digit, opens, symbol_text}
+use Rattle.lexer.specs.Forms.{AllOf, WordForm, DecimalForm, OctalForm, SymbolForm, Form}
 
 -- what the first byte says
 abbrev pub kind_of : ℕ → Start
-kind_of b = cond (capital b) Letter (cond (digit b) Decimal (cond (eqb b 37) Percent Other))
+kind_of b = cond (capital b) Letter (cond (digit b) Digit (cond (eqb b 37) Percent Other))
 
 -- a digit is no capital
 digit_small : (b : ℕ) → digit b ≡ true → capital b ≡ false
@@ -18,8 +18,8 @@ digit_small b h = let l : b ≤ 57 = leb-true b 57 (and_parts (leb 48 b) (leb b 
 pub kind_letter : (b : ℕ) → capital b ≡ true → kind_of b ≡ Letter
 kind_letter b h = rw h
 
-pub kind_decimal : (b : ℕ) → digit b ≡ true → kind_of b ≡ Decimal
-kind_decimal b h = rw (digit_small b h, h)
+pub kind_digit : (b : ℕ) → digit b ≡ true → kind_of b ≡ Digit
+kind_digit b h = rw (digit_small b h, h)
 
 pub kind_percent : (b : ℕ) → b ≡ 37 → kind_of b ≡ Percent
 kind_percent b h = rw h
@@ -30,8 +30,8 @@ kind_other b c d p = rw (c, d, ne_eqb b 37 p)
 -- the first byte of each form
 abbrev pub FormAs : Start → List ℕ → Type 0
 FormAs Letter w = WordForm w
-FormAs Decimal w = IntegerForm w
-FormAs Percent w = LogicalForm w
+FormAs Digit w = DecimalForm w
+FormAs Percent w = OctalForm w
 FormAs Comment w = ⊥
 FormAs Other w = SymbolForm w
 
@@ -69,7 +69,7 @@ symbol_long s = head_long (symbol_text s) (symbol_head s)
 
 pub form_as : (b : ℕ) (bs : List ℕ) → Form (b ∷ bs) → FormAs (kind_of b) (b ∷ bs)
 form_as b bs (inl w) = rw (kind_letter b w.0) w
-form_as b bs (inr (inl w)) = rw (kind_decimal b w.0) w
+form_as b bs (inr (inl w)) = rw (kind_digit b w.0) w
 form_as b bs (inr (inr (inl w))) = rw (kind_percent b w.0) w
 form_as b bs (inr (inr (inr w))) = rw (subst Head (sym w.1) (symbol_head w.0)).0 w
 

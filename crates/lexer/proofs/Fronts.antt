@@ -4,47 +4,47 @@ use Rattle.std.proofs.lemmas.List.{drop_more, drop_all}
 use Rattle.std.proofs.lemmas.Bool.{lt-ltb, le-ltb, le-leb, lt-leb, eqb-true, and_parts, false_from_ne_true, cases_lt}
 use Rattle.std.specs.Bool.{then_some}
 use Rattle.std.specs.Option.{option_map}
-use Rattle.lexer.specs.declared.token.Kind.{Kind}
-use Rattle.lexer.specs.declared.token.Kind.TheVariants.{Integer, Logical}
-use Rattle.lexer.specs.Lexemes.{base_of, most_of, value_of, within, closing, blanks, opens, commented, gap_of}
+use Rattle.lexer.specs.declared.token.Radix.{Radix}
+use Rattle.lexer.specs.declared.token.Radix.TheVariants.{Decimal, Octal}
+use Rattle.lexer.specs.Lexemes.{base_of, most_of, value_of, within, closing, blanks, opens, comment_width, gap_of}
 
 -- a digit more makes no value smaller
-pub grows : (kind : Kind) (v : ℕ) (ds : List ℕ) → v ≤ value_of (base_of kind) v ds
+pub grows : (radix : Radix) (v : ℕ) (ds : List ℕ) → v ≤ value_of (base_of radix) v ds
 unfolding value_of
-grows kind v [] = omega arith
-grows Integer v (d ∷ ds) = omega (arith, grows Integer (v * 10 + (d - 48)) ds)
-grows Logical v (d ∷ ds) = omega (arith, grows Logical (v * 8 + (d - 48)) ds)
+grows radix v [] = omega arith
+grows Decimal v (d ∷ ds) = omega (arith, grows Decimal (v * 10 + (d - 48)) ds)
+grows Octal v (d ∷ ds) = omega (arith, grows Octal (v * 8 + (d - 48)) ds)
 
-most_small : (kind : Kind) → most_of kind ≤ 65535
-most_small Integer = omega arith
-most_small Logical = omega arith
+most_small : (radix : Radix) → most_of radix ≤ 65535
+most_small Decimal = omega arith
+most_small Octal = omega arith
 
 -- the loop over the digits: v so far, i digits in
-module _ (kind : Kind) (v : ℕ) (xs : List ℕ) (i : ℕ) (so : value_of (base_of kind) 0 xs ≡ value_of (base_of kind) v (drop i xs)) where
+module _ (radix : Radix) (v : ℕ) (xs : List ℕ) (i : ℕ) (so : value_of (base_of radix) 0 xs ≡ value_of (base_of radix) v (drop i xs)) where
   -- one digit on
-  pub value_more : (d : ℕ) → i < length xs → d ≡ get_or xs i 0 - 48 → value_of (base_of kind) 0 xs ≡ value_of (base_of kind) (v * base_of kind + d) (drop (i + 1) xs)
+  pub value_more : (d : ℕ) → i < length xs → d ≡ get_or xs i 0 - 48 → value_of (base_of radix) 0 xs ≡ value_of (base_of radix) (v * base_of radix + d) (drop (i + 1) xs)
   unfolding value_of
   value_more d h e = so ∙ rw (drop_more xs i 0 h, e)
 
   -- what is over 65,535 so far is over it in the end
-  pub value_over : i < length xs → 65535 < v * base_of kind + (get_or xs i 0 - 48) → None ≡ within (most_of kind) (value_of (base_of kind) 0 xs)
+  pub value_over : i < length xs → 65535 < v * base_of radix + (get_or xs i 0 - 48) → None ≡ within (most_of radix) (value_of (base_of radix) 0 xs)
   value_over h o =
       let d = get_or xs i 0 - 48 in
-      let l : most_of kind < value_of (base_of kind) 0 xs = omega (arith, value_more d h refl, grows kind (v * base_of kind + d) (drop (i + 1) xs), most_small kind) in
-      rw (lt-ltb (most_of kind) (value_of (base_of kind) 0 xs) l)
+      let l : most_of radix < value_of (base_of radix) 0 xs = omega (arith, value_more d h refl, grows radix (v * base_of radix + d) (drop (i + 1) xs), most_small radix) in
+      rw (lt-ltb (most_of radix) (value_of (base_of radix) 0 xs) l)
 
-  pub value_whole : length xs ≤ i → value_of (base_of kind) 0 xs ≡ v
+  pub value_whole : length xs ≤ i → value_of (base_of radix) 0 xs ≡ v
   unfolding value_of
   value_whole h = so ∙ rw (drop_all i xs h)
 
 pub within_some : (most v : ℕ) → then_some (leb v most) v ≡ within most v
 within_some most v = ⊎_elim (λ l. rw (lt-leb v most l, lt-ltb most v l)) (λ l. rw (le-leb v most l, le-ltb most v l)) (cases_lt most v)
 
--- `>>` stands at a place
+-- `>>` stands at an offset
 abbrev pub Ends : List ℕ → ℕ → Type 0
 Ends s k = (get_or s k 0 ≡ 62) × (get_or s (k + 1) 0 ≡ 62)
 
--- the first place where it stands, if it stands anywhere
+-- the first offset where it stands, if it stands anywhere
 abbrev pub FirstEnd : List ℕ → Option ℕ → Type 0
 FirstEnd s r = MatchOption r ((k : ℕ) → k + 1 < length s → Ends s k → ⊥) (λ i. (i + 1 < length s) × Ends s i × ((k : ℕ) → k < i → Ends s k → ⊥))
 
@@ -78,6 +78,6 @@ pub gap_none : (xs : List ℕ) → blanks xs ≡ false → opens xs ≡ false �
 unfolding gap_of
 gap_none xs h o = rw (h, o)
 
-pub gap_comment : (xs : List ℕ) (found : Option ℕ) → blanks xs ≡ false → opens xs ≡ true → closing (drop 2 xs) ≡ found → gap_of xs ≡ commented found
+pub gap_comment : (xs : List ℕ) (found : Option ℕ) → blanks xs ≡ false → opens xs ≡ true → closing (drop 2 xs) ≡ found → gap_of xs ≡ comment_width found
 unfolding gap_of
 gap_comment xs found h o e = rw (h, o, e)

@@ -6,22 +6,22 @@ use Rattle.std.specs.List.{flat_map}
 use Rattle.base.specs.declared.refusal.Refusal.{Refusal}
 use Rattle.base.specs.Refusals.{refuse}
 use Rattle.lexer.specs.Lexemes.{gap_of}
-use Rattle.lexer.specs.Cut.{Piece, Front, onward, width_of, Cut, lexeme, cut, left, fault, settled, texted}
-use Rattle.lexer.specs.Theorems.{Part, token, spelling, tokens_in, Right, AllRight, Refused, Reading, TextStands}
+use Rattle.lexer.specs.Cut.{Piece, Front, onward, width_of, Cut, lexeme, cut, tokens_left, fault, tokens_unless_fault, token_list}
+use Rattle.lexer.specs.Theorems.{Part, token, spelling, tokens_in, IsRightPart, AreRightParts, IsRefusedAt, Reading, TextStands}
 use Rattle.lexer.proofs.Cutting.{Wide, dropped, lexeme_wide}
 use Rattle.lexer.proofs.Sound.{Sound, lexeme_sound, Gap, gap_part}
 use Rattle.lexer.proofs.Unique.{reading_one}
 
-abbrev Ended : Option Refusal → (place : ℕ) → (rest : List ℕ) → Type 0
+abbrev Ended : Option Refusal → (offset : ℕ) → (rest : List ℕ) → Type 0
 Ended None p rest = rest ≡ []
-Ended (Some r) p rest = Refused r p rest
+Ended (Some r) p rest = IsRefusedAt r p rest
 
--- the text xs at the place p, cut so
+-- the text xs at the offset p, cut so
 record Read (p : ℕ) (xs : List ℕ) (c : Cut) : Type 0 where
   parts : List Part
   rest : List ℕ
   whole : flat_map spelling parts ++ rest ≡ xs
-  right : AllRight p parts rest
+  right : AreRightParts p parts rest
   tokens : c.tokens ≡ tokens_in parts
   ending : Ended c.fault (p + length (flat_map spelling parts)) rest
 
@@ -32,20 +32,20 @@ halt p xs c t e =
     record { parts = []; rest = xs; whole = refl; right = tt; tokens = t; ending = subst (λ (k : ℕ). Ended c.fault k xs) z e }
 
 -- one part more
-extend : (p : ℕ) (xs : List ℕ) (x : Part) (n : ℕ) (c c' : Cut) → spelling x ++ drop n xs ≡ xs → length (spelling x) ≡ n → Right p x (drop n xs) →
+extend : (p : ℕ) (xs : List ℕ) (x : Part) (n : ℕ) (c c' : Cut) → spelling x ++ drop n xs ≡ xs → length (spelling x) ≡ n → IsRightPart p x (drop n xs) →
     ((ps : List Part) → c.tokens ≡ tokens_in ps → c'.tokens ≡ tokens_in (x ∷ ps)) → c.fault ≡ c'.fault → Read (p + n) (drop n xs) c → Read p xs c'
 extend p xs x n c c' front size right tokens fault r =
     let ps = r.parts in
-    let place : (p + n) + length (flat_map spelling ps) ≡ p + length (flat_map spelling (x ∷ ps)) = omega (arith, length-append (spelling x) (flat_map spelling ps)) in
+    let offset : (p + n) + length (flat_map spelling ps) ≡ p + length (flat_map spelling (x ∷ ps)) = omega (arith, length-append (spelling x) (flat_map spelling ps)) in
     let e : Ended c'.fault ((p + n) + length (flat_map spelling ps)) r.rest =
     subst (λ (o : Option Refusal). Ended o ((p + n) + length (flat_map spelling ps)) r.rest) fault r.ending in
     record {
       parts = x ∷ ps;
       rest = r.rest;
       whole = append_assoc (spelling x) (flat_map spelling ps) r.rest ∙ ap (λ (v : List ℕ). spelling x ++ v) r.whole ∙ front;
-      right = (subst (Right p x) (sym r.whole) right, subst (λ (k : ℕ). AllRight (p + k) ps r.rest) (sym size) r.right);
+      right = (subst (IsRightPart p x) (sym r.whole) right, subst (λ (k : ℕ). AreRightParts (p + k) ps r.rest) (sym size) r.right);
       tokens = tokens ps r.tokens;
-      ending = subst (λ (k : ℕ). Ended c'.fault k r.rest) place e;
+      ending = subst (λ (k : ℕ). Ended c'.fault k r.rest) offset e;
     }
 
 -- by what stands at the front
@@ -78,25 +78,25 @@ read end p zero (b ∷ bs) e =
     extend p xs g.part (gap_of xs) (cut end (gap_of xs - 1) bs) _ g.front g.size (g.right p) (λ ps e. e ∙ sym (g.silent ps)) refl (ih (gap_of xs) h l))
 
 -- the whole source
-ended : (source : List ℕ) (c : Cut) → Read 0 source c → Reading source (settled c.tokens c.fault)
+ended : (source : List ℕ) (c : Cut) → Read 0 source c → Reading source (tokens_unless_fault c.tokens c.fault)
 ended source c r = by c.fault r.ending
   where
-    by : (o : Option Refusal) → Ended o (0 + length (flat_map spelling r.parts)) r.rest → Reading source (settled c.tokens o)
+    by : (o : Option Refusal) → Ended o (0 + length (flat_map spelling r.parts)) r.rest → Reading source (tokens_unless_fault c.tokens o)
     by None e = record { parts = r.parts; rest = r.rest; whole = r.whole; right = r.right; ending = (r.tokens, e) }
     by (Some f) e =
         let z : 0 + length (flat_map spelling r.parts) ≡ length (flat_map spelling r.parts) = omega arith in
-        record { parts = r.parts; rest = r.rest; whole = r.whole; right = r.right; ending = subst (λ (k : ℕ). Refused f k r.rest) z e }
+        record { parts = r.parts; rest = r.rest; whole = r.whole; right = r.right; ending = subst (λ (k : ℕ). IsRefusedAt f k r.rest) z e }
 
-texted_long : (source : List ℕ) → 32768 < length source → texted source ≡ refuse 1 32768
-unfolding texted
+texted_long : (source : List ℕ) → 32768 < length source → token_list source ≡ refuse 1 32768
+unfolding token_list
 texted_long source h = rw (lt-ltb 32768 (length source) h)
 
 -- a source that has tokens is no longer than a source may be
-pub reads_short : (source : List ℕ) (ts : List Piece) → texted source ≡ Ok ts → length source ≤ 32768
+pub reads_short : (source : List ℕ) (ts : List Piece) → token_list source ≡ Ok ts → length source ≤ 32768
 reads_short source ts e = ⊎_elim (λ l. let r = texted_long source l in cc) (λ l. l) (cases_lt 32768 (length source))
 
-pub text_reads : (source : List ℕ) → length source ≤ 32768 → Reading source (texted source)
-unfolding texted left fault
+pub text_reads : (source : List ℕ) → length source ≤ 32768 → Reading source (token_list source)
+unfolding token_list tokens_left fault
 text_reads source h =
     let z : 0 + length source ≡ length source = omega arith in
     rw (le-ltb 32768 (length source) h) (ended source (cut (length source) 0 source) (read (length source) 0 0 source z))
@@ -105,6 +105,6 @@ pub text_stands : TextStands
 text_stands =
     record {
       reads = text_reads;
-      alone = λ source answer h x. reading_one source answer (texted source) x (text_reads source h);
+      alone = λ source answer h x. reading_one source answer (token_list source) x (text_reads source h);
       long = texted_long;
     }

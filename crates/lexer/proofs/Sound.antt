@@ -5,21 +5,21 @@ use Rattle.std.proofs.lemmas.List.Sums.{prefix_len-le-length}
 use Rattle.std.proofs.lemmas.Bool.{cases_Bool, and_parts, leb-true, leb-false, ltb-true, ltb-false, cond_both, eqb-true, eqb-false, or_left}
 use Rattle.std.specs.List.{prefix_len}
 use Rattle.base.specs.Refusals.{refuse}
-use Rattle.lexer.specs.declared.token.Kind.TheVariants.{Integer, Logical}
+use Rattle.lexer.specs.declared.token.Radix.TheVariants.{Decimal, Octal}
 use Rattle.lexer.specs.declared.token.Symbol.{Symbol}
-use Rattle.lexer.specs.Lexemes.{Start, Letter, Decimal, Percent, Comment, Other, blank, capital, digit, octal, word_byte, value_of, within, opens, blanks, start_of, symbol_text, sign_of, gap_of, closing}
+use Rattle.lexer.specs.Lexemes.{Start, Letter, Digit, Percent, Comment, Other, blank, capital, digit, octal, word_byte, value_of, within, opens, blanks, start_of, symbol_text, sign_of, gap_of, closing}
 use Rattle.lexer.proofs.Fronts.{gap_blank, gap_none, gap_comment}
 use Rattle.std.specs.Option.{option_map}
-use Rattle.lexer.specs.Cut.{Piece, word, number, symbol, Front, good, word_of, number_of, valued, symbol_of, lexed, lexeme}
-use Rattle.lexer.specs.Forms.{AllOf, WordForm, IntegerForm, LogicalForm, SymbolForm, Spells, Longest}
-use Rattle.lexer.specs.Theorems.{Part, token, gap, comment, spelling, tokens_in, Right, Refused, BadToken, OpenComment}
+use Rattle.lexer.specs.Cut.{Piece, word, number, symbol, Front, good, word_of, number_of, number_with_value, symbol_of, front_from, lexeme}
+use Rattle.lexer.specs.Forms.{AllOf, WordForm, DecimalForm, OctalForm, SymbolForm, Spells, Longest}
+use Rattle.lexer.specs.Theorems.{Part, token, gap, comment, spelling, tokens_in, IsRightPart, IsRefusedAt, BadToken, OpenComment}
 use Rattle.lexer.proofs.Cutting.{Starts, starts}
 use Rattle.lexer.proofs.Signs.{Stands, sign_stands, Reaches, sign_longest}
-use Rattle.lexer.proofs.FirstBytes.{kind_of, kind_letter, kind_decimal, kind_percent, kind_other, FormAs, Head, symbol_head, by_form, not_opens, lead_all, lead_most}
+use Rattle.lexer.proofs.FirstBytes.{kind_of, kind_letter, kind_digit, kind_percent, kind_other, FormAs, Head, symbol_head, by_form, not_opens, lead_all, lead_most}
 
 abbrev pub Sound : ℕ → List ℕ → Front → Type 0
-Sound p xs (Ok f) = Right p (token f.0 (take f.1 xs)) (drop f.1 xs)
-Sound p xs (Err r) = Refused r p xs
+Sound p xs (Ok f) = IsRightPart p (token f.0 (take f.1 xs)) (drop f.1 xs)
+Sound p xs (Err r) = IsRefusedAt r p xs
 
 -- the longest front, by the form that its first byte says
 longest_by : (b : ℕ) (bs : List ℕ) (n : ℕ) (k : Start) → kind_of b ≡ k → n ≤ length (b ∷ bs) →
@@ -39,14 +39,14 @@ closed b bs n h = rw (take-append-drop n (b ∷ bs)) h
 -- what the first byte of a token says
 abbrev pub piece_kind : Piece → Start
 piece_kind (word text p) = Letter
-piece_kind (number text Integer v p) = Decimal
-piece_kind (number text Logical v p) = Percent
+piece_kind (number text Decimal v p) = Digit
+piece_kind (number text Octal v p) = Percent
 piece_kind (symbol s p) = Other
 
 pub spells_kind : (t : Piece) (b : ℕ) (bs : List ℕ) → Spells t (b ∷ bs) → kind_of b ≡ piece_kind t
 spells_kind (word text p) b bs h = kind_letter b h.1.0
-spells_kind (number text Integer v p) b bs h = kind_decimal b h.1.0
-spells_kind (number text Logical v p) b bs h = kind_percent b h.1.0
+spells_kind (number text Decimal v p) b bs h = kind_digit b h.1.0
+spells_kind (number text Octal v p) b bs h = kind_percent b h.1.0
 spells_kind (symbol s p) b bs h = (subst Head (sym h) (symbol_head s)).0
 
 -- a word
@@ -61,8 +61,8 @@ word_form b bs (suc n) c h a = (c, a.1)
 
 no_word : (b : ℕ) (bs : List ℕ) → capital b ≡ true → 15 < length (b ∷ bs) → (t : Piece) → Spells t (b ∷ bs) → ⊥
 no_word b bs c h (word text p) s = let l : length (b ∷ bs) ≤ 15 = s.2 in omega arith
-no_word b bs c h (number text Integer v p) s = let k = kind_letter b c in let m = spells_kind (number text Integer v p) b bs s in cc
-no_word b bs c h (number text Logical v p) s = let k = kind_letter b c in let m = spells_kind (number text Logical v p) b bs s in cc
+no_word b bs c h (number text Decimal v p) s = let k = kind_letter b c in let m = spells_kind (number text Decimal v p) b bs s in cc
+no_word b bs c h (number text Octal v p) s = let k = kind_letter b c in let m = spells_kind (number text Octal v p) b bs s in cc
 no_word b bs c h (symbol t p) s = let k = kind_letter b c in let m = spells_kind (symbol t p) b bs s in cc
 
 sound_word : (p b : ℕ) (bs : List ℕ) (n : ℕ) → capital b ≡ true → n ≡ prefix_len word_byte (b ∷ bs) → Sound p (b ∷ bs) (word_of p n (b ∷ bs))
@@ -99,34 +99,34 @@ sound_word p b bs n c ne =
 
 -- a number
 
-integer_run : (v : List ℕ) → IntegerForm v → AllOf digit v
-integer_run [] h = absurd h
-integer_run (b ∷ bs) h = (h.0, h.1)
+decimal_run : (v : List ℕ) → DecimalForm v → AllOf digit v
+decimal_run [] h = absurd h
+decimal_run (b ∷ bs) h = (h.0, h.1)
 
-integer_form : (b : ℕ) (bs : List ℕ) (n : ℕ) → digit b ≡ true → 0 < n → AllOf digit (take n (b ∷ bs)) → IntegerForm (take n (b ∷ bs))
-integer_form b bs zero c h a = absurd (omega arith)
-integer_form b bs (suc n) c h a = (c, a.1)
+decimal_form : (b : ℕ) (bs : List ℕ) (n : ℕ) → digit b ≡ true → 0 < n → AllOf digit (take n (b ∷ bs)) → DecimalForm (take n (b ∷ bs))
+decimal_form b bs zero c h a = absurd (omega arith)
+decimal_form b bs (suc n) c h a = (c, a.1)
 
-no_integer : (b : ℕ) (bs : List ℕ) → kind_of b ≡ Decimal → 32767 < value_of 10 0 (b ∷ bs) → (t : Piece) → Spells t (b ∷ bs) → ⊥
-no_integer b bs k h (word text p) s = let m = spells_kind (word text p) b bs s in cc
-no_integer b bs k h (number text Integer v p) s = let e : v ≡ value_of 10 0 (b ∷ bs) = s.2 in let l : v ≤ 32767 = s.3 in omega arith
-no_integer b bs k h (number text Logical v p) s = let m = spells_kind (number text Logical v p) b bs s in cc
-no_integer b bs k h (symbol t p) s = let m = spells_kind (symbol t p) b bs s in cc
+no_decimal : (b : ℕ) (bs : List ℕ) → kind_of b ≡ Digit → 32767 < value_of 10 0 (b ∷ bs) → (t : Piece) → Spells t (b ∷ bs) → ⊥
+no_decimal b bs k h (word text p) s = let m = spells_kind (word text p) b bs s in cc
+no_decimal b bs k h (number text Decimal v p) s = let e : v ≡ value_of 10 0 (b ∷ bs) = s.2 in let l : v ≤ 32767 = s.3 in omega arith
+no_decimal b bs k h (number text Octal v p) s = let m = spells_kind (number text Octal v p) b bs s in cc
+no_decimal b bs k h (symbol t p) s = let m = spells_kind (symbol t p) b bs s in cc
 
-sound_integer : (p b : ℕ) (bs : List ℕ) (n : ℕ) → digit b ≡ true → n ≡ prefix_len digit (b ∷ bs) → Sound p (b ∷ bs) (number_of p 0 n Integer (b ∷ bs))
-sound_integer p b bs n c ne =
+sound_decimal : (p b : ℕ) (bs : List ℕ) (n : ℕ) → digit b ≡ true → n ≡ prefix_len digit (b ∷ bs) → Sound p (b ∷ bs) (number_of p 0 n Decimal (b ∷ bs))
+sound_decimal p b bs n c ne =
     let xs = b ∷ bs in
     let l : n ≤ length xs = omega (arith, prefix_len-le-length digit xs) in
     let o : 0 < n = rw (ne, c) (omega arith) in
     let a : AllOf digit (take n xs) = rw ne (lead_all digit xs) in
-    let f = integer_form b bs n c o a in
-    let kd = kind_decimal b c in
-    let m : Longest (take n xs) (drop n xs) = longest_by b bs n Decimal kd l (λ v later e g. run_most digit xs v later n ne e (integer_run v g)) in
+    let f = decimal_form b bs n c o a in
+    let kd = kind_digit b c in
+    let m : Longest (take n xs) (drop n xs) = longest_by b bs n Digit kd l (λ v later e g. run_most digit xs v later n ne e (decimal_run v g)) in
     let z : 0 + n ≡ n = omega arith in
     let v = value_of 10 0 (take n xs) in
-    cond_both (eqb n 0) (refuse 3 p) (valued p (0 + n) Integer xs (within 32767 v)) (Sound p xs)
+    cond_both (eqb n 0) (refuse 3 p) (number_with_value p (0 + n) Decimal xs (within 32767 v)) (Sound p xs)
     (λ t. absurd (omega (arith, eqb-true n 0 t)))
-    (λ t. rw z (cond_both (ltb 32767 v) None (Some v) (λ (r : Option ℕ). Sound p xs (valued p n Integer xs r))
+    (λ t. rw z (cond_both (ltb 32767 v) None (Some v) (λ (r : Option ℕ). Sound p xs (number_with_value p n Decimal xs r))
     (λ u. (
       refl,
       inr (inl (
@@ -141,33 +141,33 @@ sound_integer p b bs n c ne =
         },
       )),
     ))
-    (λ u. (refl, (refl, f, refl, ltb-false 32767 v u), m, closed b bs n (not_opens b bs Decimal kd (λ e. cc))))))
+    (λ u. (refl, (refl, f, refl, ltb-false 32767 v u), m, closed b bs n (not_opens b bs Digit kd (λ e. cc))))))
   where
     over : (n : ℕ) → 0 < n → 32767 < value_of 10 0 (take n (b ∷ bs)) → (t : Piece) → Spells t (take n (b ∷ bs)) → ⊥
     over zero o h = absurd (omega arith)
-    over (suc n) o h = no_integer b (take n bs) (kind_decimal b c) h
+    over (suc n) o h = no_decimal b (take n bs) (kind_digit b c) h
 
-no_logical : (b : ℕ) (bs : List ℕ) → kind_of b ≡ Percent → (length bs ≡ 0) ⊎ (65535 < value_of 8 0 bs) → (t : Piece) → Spells t (b ∷ bs) → ⊥
-no_logical b bs k h (word text p) s = let m = spells_kind (word text p) b bs s in cc
-no_logical b bs k h (number text Integer v p) s = let m = spells_kind (number text Integer v p) b bs s in cc
-no_logical b bs k (inl h) (number text Logical v p) s = let l : 1 < length (b ∷ bs) = s.4 in omega arith
-no_logical b bs k (inr h) (number text Logical v p) s = let e : v ≡ value_of 8 0 bs = s.2 in let l : v ≤ 65535 = s.3 in omega arith
-no_logical b bs k h (symbol t p) s = let m = spells_kind (symbol t p) b bs s in cc
+no_octal : (b : ℕ) (bs : List ℕ) → kind_of b ≡ Percent → (length bs ≡ 0) ⊎ (65535 < value_of 8 0 bs) → (t : Piece) → Spells t (b ∷ bs) → ⊥
+no_octal b bs k h (word text p) s = let m = spells_kind (word text p) b bs s in cc
+no_octal b bs k h (number text Decimal v p) s = let m = spells_kind (number text Decimal v p) b bs s in cc
+no_octal b bs k (inl h) (number text Octal v p) s = let l : 1 < length (b ∷ bs) = s.4 in omega arith
+no_octal b bs k (inr h) (number text Octal v p) s = let e : v ≡ value_of 8 0 bs = s.2 in let l : v ≤ 65535 = s.3 in omega arith
+no_octal b bs k h (symbol t p) s = let m = spells_kind (symbol t p) b bs s in cc
 
-logical_most : (b : ℕ) (bs : List ℕ) (n : ℕ) → n ≡ prefix_len octal bs → (v later : List ℕ) → b ∷ bs ≡ v ++ later → LogicalForm v → length v ≤ suc n
-logical_most b bs n ne [] later e h = omega arith
-logical_most b bs n ne (c ∷ cs) later e h =
+octal_most : (b : ℕ) (bs : List ℕ) (n : ℕ) → n ≡ prefix_len octal bs → (v later : List ℕ) → b ∷ bs ≡ v ++ later → OctalForm v → length v ≤ suc n
+octal_most b bs n ne [] later e h = omega arith
+octal_most b bs n ne (c ∷ cs) later e h =
     let t : bs ≡ cs ++ later = cc in
     omega (arith, run_most octal bs cs later n ne t h.1)
 
-sound_logical : (p b : ℕ) (bs : List ℕ) (n : ℕ) → b ≡ 37 → n ≡ prefix_len octal bs → Sound p (b ∷ bs) (number_of p 1 n Logical (b ∷ bs))
-sound_logical p b bs n c ne =
+sound_octal : (p b : ℕ) (bs : List ℕ) (n : ℕ) → b ≡ 37 → n ≡ prefix_len octal bs → Sound p (b ∷ bs) (number_of p 1 n Octal (b ∷ bs))
+sound_octal p b bs n c ne =
     let xs = b ∷ bs in
     let l : n ≤ length bs = omega (arith, prefix_len-le-length octal bs) in
     let a : AllOf octal (take n bs) = rw ne (lead_all octal bs) in
-    let f : LogicalForm (take (suc n) xs) = (c, a) in
+    let f : OctalForm (take (suc n) xs) = (c, a) in
     let kd = kind_percent b c in
-    let m : Longest (take (suc n) xs) (drop (suc n) xs) = longest_by b bs (suc n) Percent kd (omega arith) (logical_most b bs n ne) in
+    let m : Longest (take (suc n) xs) (drop (suc n) xs) = longest_by b bs (suc n) Percent kd (omega arith) (octal_most b bs n ne) in
     let v = value_of 8 0 (take n bs) in
     let bad : ((length (take n bs) ≡ 0) ⊎ (65535 < v)) → BadToken xs =
     λ h. record {
@@ -176,12 +176,12 @@ sound_logical p b bs n c ne =
       front = sym (take-append-drop (suc n) xs);
       form = inr (inr (inl f));
       longest = m;
-      spells_none = no_logical b (take n bs) kd h;
+      spells_none = no_octal b (take n bs) kd h;
     } in
     let k = length-take-le n bs l in
-    cond_both (eqb n 0) (refuse 3 p) (valued p (1 + n) Logical xs (within 65535 v)) (Sound p xs)
+    cond_both (eqb n 0) (refuse 3 p) (number_with_value p (1 + n) Octal xs (within 65535 v)) (Sound p xs)
     (λ t. (refl, inr (inl (refl, bad (inl (omega (arith, eqb-true n 0 t)))))))
-    (λ t. rw (one-add n) (cond_both (ltb 65535 v) None (Some v) (λ (r : Option ℕ). Sound p xs (valued p (suc n) Logical xs r))
+    (λ t. rw (one-add n) (cond_both (ltb 65535 v) None (Some v) (λ (r : Option ℕ). Sound p xs (number_with_value p (suc n) Octal xs r))
     (λ u. (refl, inr (inl (refl, bad (inr (ltb-true 65535 v u))))))
     (λ u. (
       refl,
@@ -283,7 +283,7 @@ pub record Gap (xs : List ℕ) (n : ℕ) : Type 0 where
   pub part : Part
   pub front : spelling part ++ drop n xs ≡ xs
   pub size : length (spelling part) ≡ n
-  pub right : (p : ℕ) → Right p part (drop n xs)
+  pub right : (p : ℕ) → IsRightPart p part (drop n xs)
   pub silent : (ps : List Part) → tokens_in (part ∷ ps) ≡ tokens_in ps
 
 pub blank_gap : (b : ℕ) (bs : List ℕ) → blank b ≡ true → Gap (b ∷ bs) 1
@@ -340,9 +340,9 @@ lexeme_sound p b bs g = by (start_of xs) (starts b bs)
     xs : List ℕ
     xs = b ∷ bs
 
-    by : (s : Start) → Starts b bs s → Sound p xs (lexed p xs s)
+    by : (s : Start) → Starts b bs s → Sound p xs (front_from p xs s)
     by Letter h = sound_word p b bs (prefix_len word_byte xs) h refl
-    by Decimal h = sound_integer p b bs (prefix_len digit xs) h refl
-    by Percent h = sound_logical p b bs (prefix_len octal bs) h refl
+    by Digit h = sound_decimal p b bs (prefix_len digit xs) h refl
+    by Percent h = sound_octal p b bs (prefix_len octal bs) h refl
     by Comment h = (refl, inr (inr (refl, open_comment xs g h)))
     by Other h = sound_symbol p b bs (kind_other b h.0 h.1 h.2) h.3 (gap_zero xs g).0

@@ -1,15 +1,17 @@
 -- The reserved words.
-use Rattle.std.specs.Prelude.{ℕ, cond, List, [], ◌∷◌, Some, None, codes, Option}
-use Rattle.std.specs.Str.{bytes_eq}
-use Rattle.lexer.specs.Names.{name_of}
+use Rattle.std.specs.Prelude.{ℕ, List, [], ◌∷◌, codes, Option}
+use Rattle.std.specs.Option.{option_map}
+use Rattle.lexer.specs.Names.{name_of, first_named}
 use Rattle.lexer.specs.declared.reserved.Reserved.{Reserved}
 use Rattle.lexer.specs.declared.token.Keyword.{Keyword}
 use Rattle.lexer.specs.declared.token.Keyword.TheVariants.{Begin, End, Integer, Logical, Array, If, Then, Else, Case, Of, While, Do, Until, For, Step, Or, And, Mod, Lnot, Land, Xor, Lor, Lsl, Lsr, Asr, Csl, Csr, True, False, Comment}
 
+-- A reserved word: its bytes and which keyword it is.
 pub record Word : Type 0 where
   pub text : List ℕ
   pub keyword : Keyword
 
+-- All reserved words.
 unfoldable pub reserved_words : List Word
 reserved_words =
     record { text = codes "BEGIN"; keyword = Begin } ∷
@@ -44,14 +46,14 @@ reserved_words =
     record { text = codes "COMMENT"; keyword = Comment } ∷
     []
 
--- an entry of the table
+-- What an entry of the code's table of reserved words says.
 abbrev pub entry_of : Reserved → Word
 entry_of e = record { text = name_of e.name; keyword = e.keyword }
 
--- the keyword of the first entry that is so spelled
+-- The keyword of the first entry of the list whose text is w, if there is one.
 abbrev pub lookup : List Word → List ℕ → Option Keyword
-lookup [] w = None
-lookup (e ∷ es) w = cond (bytes_eq e.text w) (Some e.keyword) (lookup es w)
+lookup es w = option_map (λ (e : Word). e.keyword) (first_named (λ (e : Word). e.text) es w)
 
+-- Which reserved word w is, if it is one.
 unfoldable pub keyword_of : List ℕ → Option Keyword
 keyword_of w = lookup reserved_words w

@@ -2,6 +2,7 @@
 ghost use Rattle.std.specs.Prelude.{◌≡◌};
 ghost use Rattle.lexer.specs.Faults.{refusal_of};
 
+use base::limits::MOST_SOURCE_BYTES;
 use base::refusal::Refusal;
 use thiserror::Error;
 
@@ -14,7 +15,7 @@ pub enum TextFault {
     /// 2: neither a token nor a blank nor a comment begins at this place.
     #[error("no token begins here")]
     NoToken(usize),
-    /// 3: a word of over 15 bytes, a number over the limit of its type, or a `%` without an octal digit. It begins at this
+    /// 3: a word of over 15 bytes, a number over the limit of its radix, or a `%` without an octal digit. It begins at this
     /// place.
     #[error("a bad or oversized word or number")]
     BadToken(usize),
@@ -30,7 +31,7 @@ impl From<TextFault> for Refusal {
         match e {
             TextFault::TooLong => Refusal {
                 number: 1,
-                place: 32768,
+                place: MOST_SOURCE_BYTES,
             },
             TextFault::NoToken(place) => Refusal { number: 2, place },
             TextFault::BadToken(place) => Refusal { number: 3, place },

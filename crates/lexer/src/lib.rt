@@ -1,4 +1,4 @@
-// The text of a source cut into tokens, and the one search by name.
+// How the text of a source is cut into tokens, and the search by name.
 #![tactic(auto)]
 
 pub mod fault;

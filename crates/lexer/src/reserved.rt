@@ -7,7 +7,7 @@ use crate::name::Name;
 use crate::search::{Named, find};
 use crate::token::Keyword;
 
-// A word that no name may be.
+// A reserved word: the bytes that spell it, and which keyword it is.
 #[derive(Clone, Copy)]
 struct Reserved {
     name: Name,

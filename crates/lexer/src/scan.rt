@@ -3,12 +3,13 @@ ghost use Rattle.std.specs.Prelude.{◌≡◌, ◌<◌, ◌≤◌, [], ◌∷◌
 ghost use Rattle.std.specs.List.{prefix_len};
 ghost use Rattle.lexer.specs.Lexemes.{word_byte, value_of, base_of, most_of, digit_of, gap_of, sign_of};
 ghost use Rattle.std.specs.Option.{option_map};
-ghost use Rattle.lexer.specs.Cut.{fronted, signed, rested, after, word_of, number_of, symbol_of, past, next_of, nexted, found, loosened, piece, left, Steps, Short};
+ghost use Rattle.lexer.specs.Cut.{front_answer, symbol_and_rest, with_rest, after, word_of, number_of, symbol_of, past, next_of, next_answer, token_of_next, piece_and_rest, piece, tokens_left, Steps, Short};
 ghost use Rattle.lexer.specs.Cut.{lexeme as lexeme_of};
 ghost use Rattle.lexer.specs.Lexemes.{within as within_of, closing as closing_of};
 
 use crate::fault::TextFault;
-use crate::token::{Kind, Symbol, Token};
+use crate::token::{Radix, Symbol, Token};
+use base::limits::MOST_NAME_BYTES;
 
 // A word goes on with capitals, digits and apostrophes.
 fn is_word_byte(b: u8) -> bool
@@ -25,26 +26,26 @@ fn word_len(s: &[u8]) -> usize
     s.iter().take_while(|b| is_word_byte(**b)).count()
 }
 
-// How many digits of a number of this type stand at the front.
-fn digits_len(s: &[u8], kind: Kind) -> usize
-    ensures value { result ≡ prefix_len (digit_of kind) s.now }
+// How many digits of a number of this radix stand at the front.
+fn digits_len(s: &[u8], radix: Radix) -> usize
+    ensures value { result ≡ prefix_len (digit_of radix) s.now }
     ensures bound { result ≤ length s.now }
 {
-    s.iter().take_while(|b| kind.has_digit(**b)).count()
+    s.iter().take_while(|b| radix.has_digit(**b)).count()
 }
 
-// The value of the digits, if it is within the limit of the type.
+// The value of the digits, if it is within the limit of the radix.
 #[tactic(auto, using(crate::proofs::Fronts::value_more, crate::proofs::Fronts::value_over, crate::proofs::Fronts::value_whole, crate::proofs::Fronts::within_some))]
-fn value(digits: &[u8], kind: Kind) -> Option<u16>
-    ensures { result ≡ within_of (most_of kind) (value_of (base_of kind) 0 digits.now) }
+fn value(digits: &[u8], radix: Radix) -> Option<u16>
+    ensures { result ≡ within_of (most_of radix) (value_of (base_of radix) 0 digits.now) }
 {
     let mut n = 0u16;
     for d in digits {
         n = n
-            .checked_mul(kind.base())?
+            .checked_mul(radix.base())?
             .checked_add(u16::from(d.saturating_sub(b'0')))?;
     }
-    (n <= kind.most()).then_some(n)
+    (n <= radix.most()).then_some(n)
 }
 
 // How many bytes there are up to the end of the next `>>`.
@@ -59,7 +60,7 @@ fn closing(s: &[u8]) -> Option<usize>
 
 // The symbol at the front, and the text after it: those of two bytes are tried first.
 fn sign(s: &[u8]) -> Option<(Symbol, &[u8])>
-    ensures { option_map signed result ≡ option_map (rested s.now) (sign_of s.now) }
+    ensures { option_map symbol_and_rest result ≡ option_map (with_rest s.now) (sign_of s.now) }
 {
     match s {
         [b':', b'=', rest @ ..] => Some((Symbol::Becomes, rest)),
@@ -109,73 +110,77 @@ fn trimmed(text: &[u8]) -> &[u8]
     rest
 }
 
-// What is left of a text, and its place: no blank and no closed comment stands at the front.
+// What is left of a text, and its offset. No blank and no closed comment stands at its front.
 #[derive(Clone, Copy)]
 struct Rest<'a> {
     bytes: &'a [u8],
-    place: usize,
+    offset: usize,
 }
 
 impl<'a> Rest<'a> {
-    // What is left, `bytes`, of a text that stops at the place `end`.
+    // `bytes` are what is left of a source that ends at the offset `end`.
     fn new(bytes: &'a [u8], end: usize) -> Rest<'a>
         ensures bytes { result.bytes.now ≡ bytes.now }
-        ensures place { result.place ≡ end - length bytes.now }
+        ensures offset { result.offset ≡ end - length bytes.now }
     {
         Rest {
             bytes,
-            place: end.saturating_sub(bytes.len()),
+            offset: end.saturating_sub(bytes.len()),
         }
     }
 
     // The word at the front: a capital letter stands there.
     #[tactic(auto, using(std::proofs::lemmas::Bool::Decides::nat_tests))]
     fn word(&self) -> Result<(Token<'a>, &'a [u8]), TextFault>
-        ensures { fronted result ≡ after self.now.bytes.now (word_of self.now.place (prefix_len word_byte self.now.bytes.now) self.now.bytes.now) }
+        ensures { front_answer result ≡ after self.now.bytes.now
+            (word_of self.now.offset (prefix_len word_byte self.now.bytes.now) self.now.bytes.now) }
     {
         let n = word_len(self.bytes);
-        if n > 15 {
-            return Err(TextFault::BadToken(self.place));
+        if n > MOST_NAME_BYTES {
+            return Err(TextFault::BadToken(self.offset));
         }
         let (word, rest) = self.bytes.split_at(n);
-        Ok((Token::Word(word, self.place), rest))
+        Ok((Token::Word(word, self.offset), rest))
     }
 
     // The number at the front, whose digits come after `lead` bytes.
     #[tactic(auto, using(crate::proofs::Cutting::number_valued))]
-    fn number(&self, kind: Kind, lead: usize) -> Result<(Token<'a>, &'a [u8]), TextFault>
+    fn number(&self, radix: Radix, lead: usize) -> Result<(Token<'a>, &'a [u8]), TextFault>
         requires { lead ≤ length self.now.bytes.now }
-        ensures { fronted result ≡ after self.now.bytes.now (number_of self.now.place lead (prefix_len (digit_of kind) (drop lead self.now.bytes.now)) kind self.now.bytes.now) }
+        ensures { front_answer result ≡ after self.now.bytes.now
+            (number_of self.now.offset lead
+            (prefix_len (digit_of radix) (drop lead self.now.bytes.now)) radix self.now.bytes.now) }
     {
         let digits = &self.bytes[lead..];
-        let n = digits_len(digits, kind);
+        let n = digits_len(digits, radix);
         if n == 0 {
-            return Err(TextFault::BadToken(self.place));
+            return Err(TextFault::BadToken(self.offset));
         }
-        let v = value(&digits[..n], kind).ok_or(TextFault::BadToken(self.place))?;
+        let v = value(&digits[..n], radix).ok_or(TextFault::BadToken(self.offset))?;
         let (number, rest) = self.bytes.split_at(lead + n);
-        Ok((Token::Number(number, kind, v, self.place), rest))
+        Ok((Token::Number(number, radix, v, self.offset), rest))
     }
 
     // The symbol at the front.
     #[tactic(auto, using(crate::proofs::Cutting::symbol_none))]
     fn symbol(&self) -> Result<(Token<'a>, &'a [u8]), TextFault>
-        ensures { fronted result ≡ after self.now.bytes.now (symbol_of self.now.place (sign_of self.now.bytes.now)) }
+        ensures { front_answer result ≡ after self.now.bytes.now
+            (symbol_of self.now.offset (sign_of self.now.bytes.now)) }
     {
-        let (found, rest) = sign(self.bytes).ok_or(TextFault::NoToken(self.place))?;
-        Ok((Token::Symbol(found, self.place), rest))
+        let (found, rest) = sign(self.bytes).ok_or(TextFault::NoToken(self.offset))?;
+        Ok((Token::Symbol(found, self.offset), rest))
     }
 
     // The token at the front, and the text after it.
     #[tactic(auto, unfolding(crate::specs::Cut::lexeme))]
     fn token(&self) -> Result<(Token<'a>, &'a [u8]), TextFault>
-        ensures { fronted result ≡ after self.now.bytes.now (lexeme_of self.now.place self.now.bytes.now) }
+        ensures { front_answer result ≡ after self.now.bytes.now (lexeme_of self.now.offset self.now.bytes.now) }
     {
         match self.bytes {
             [b'A'..=b'Z', ..] => self.word(),
-            [b'0'..=b'9', ..] => self.number(Kind::Integer, 0),
-            [b'%', ..] => self.number(Kind::Logical, 1),
-            [b'<', b'<', ..] => Err(TextFault::OpenComment(self.place)),
+            [b'0'..=b'9', ..] => self.number(Radix::Decimal, 0),
+            [b'%', ..] => self.number(Radix::Octal, 1),
+            [b'<', b'<', ..] => Err(TextFault::OpenComment(self.offset)),
             _ => self.symbol(),
         }
     }
@@ -185,7 +190,7 @@ impl<'a> Rest<'a> {
 /// a source, and `end` is the length of that source in bytes. Refuses with 2 where no token begins, with 3 at a bad word
 /// or number, and with 4 at a comment without an end.
 pub fn next<'a>(text: &'a [u8], end: usize) -> Result<Option<(Token<'a>, &'a [u8])>, TextFault>
-    ensures exact { nexted result ≡ next_of end text.now }
+    ensures exact { next_answer result ≡ next_of end text.now }
     ensures steps { Steps end text.now result }
     ensures short { IfOk result (λ o. IfSome o (λ x. Short (piece x.0))) }
 {
@@ -199,8 +204,9 @@ pub fn next<'a>(text: &'a [u8], end: usize) -> Result<Option<(Token<'a>, &'a [u8
 
 /// Answers as `next` does, for a source that `check` accepted: none at the end, and none where `next` refuses.
 pub fn peek<'a>(text: &'a [u8], end: usize) -> Option<(Token<'a>, &'a [u8])>
-    ensures exact { option_map loosened result ≡ found (next_of end text.now) }
-    ensures steps { MatchOption result (left end text.now ≡ []) (λ x. (left end text.now ≡ piece x.0 ∷ left end x.1.now) × (length x.1.now < length text.now)) }
+    ensures exact { option_map piece_and_rest result ≡ token_of_next (next_of end text.now) }
+    ensures steps { MatchOption result (tokens_left end text.now ≡ [])
+        (λ x. (tokens_left end text.now ≡ piece x.0 ∷ tokens_left end x.1.now) × (length x.1.now < length text.now)) }
     ensures short { IfSome result (λ x. Short (piece x.0)) }
 {
     next(text, end).ok().flatten()

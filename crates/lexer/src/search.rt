@@ -1,4 +1,4 @@
-// One search by name, over any table whose entries have a name.
+// The search by name, in any table whose entries have a name.
 ghost use Rattle.std.specs.Prelude.{◌≡◌, ℕ, ◌<◌, List, map, length, IfSome};
 ghost use Rattle.std.specs.Str.{bytes_eq};
 ghost use Rattle.lexer.specs.Names.{First};

@@ -1,75 +1,56 @@
-// Tokens, and the types, symbols and reserved words that they are told apart by.
+// Tokens, and the radices, symbols and reserved words that they are told apart by.
 ghost use Rattle.std.specs.Prelude.{◌≡◌, Some};
-ghost use Rattle.lexer.specs.Lexemes.{base_of, digit_of, kind_text, most_of, symbol_text};
+ghost use Rattle.lexer.specs.Lexemes.{base_of, digit_of, most_of, symbol_text};
 
 use std::fmt;
 
-/// A part of the source that is a token. Its place is the offset of its first byte, in bytes.
+/// A part of the source that is a token. Its offset is that of its first byte, in bytes.
 #[derive(Clone, Copy, PartialEq, Eq, Debug)]
 pub enum Token<'a> {
-    /// Its bytes, its place.
+    /// A word: its bytes and its offset.
     Word(&'a [u8], usize),
-    /// Its bytes (the `%` among them), its type, its value, its place.
-    Number(&'a [u8], Kind, u16, usize),
-    /// Which symbol it is, its place.
+    /// A number: its bytes (including a `%`), its radix, its value and its offset.
+    Number(&'a [u8], Radix, u16, usize),
+    /// A symbol: which one it is, and its offset.
     Symbol(Symbol, usize),
 }
 
-/// The type of a number or of a name. Decimal digits are an INTEGER, `%` and octal digits a LOGICAL.
+/// How a number is written: with decimal digits, or with `%` and octal digits.
 #[derive(Clone, Copy, PartialEq, Eq, Debug)]
-pub enum Kind {
-    Integer,
-    Logical,
+pub enum Radix {
+    Decimal,
+    Octal,
 }
 
-impl Kind {
-    // The text that a declaration has for it.
-    fn text(self) -> &'static str
-        ensures { result.now ≡ kind_text self }
-    {
-        match self {
-            Kind::Integer => "INTEGER",
-            Kind::Logical => "LOGICAL",
-        }
-    }
-
+impl Radix {
     // The base of its digits.
     pub(crate) fn base(self) -> u16
         ensures { result ≡ base_of self }
     {
         match self {
-            Kind::Integer => 10,
-            Kind::Logical => 8,
+            Radix::Decimal => 10,
+            Radix::Octal => 8,
         }
     }
 
-    // The largest value of a number of this type.
+    // The largest value of a number of this radix.
     pub(crate) fn most(self) -> u16
         ensures { result ≡ most_of self }
     {
         match self {
-            Kind::Integer => 32767,
-            Kind::Logical => 65535,
+            Radix::Decimal => 32767,
+            Radix::Octal => 65535,
         }
     }
 
-    // Whether this byte is one of its digits.
+    // Whether this byte is a digit of numbers of this radix.
     pub(crate) fn has_digit(self, b: u8) -> bool
         ensures { result ≡ digit_of self b }
     {
         match self {
-            Kind::Integer => b.is_ascii_digit(),
-            Kind::Logical => matches!(b, b'0'..=b'7'),
+            Radix::Decimal => b.is_ascii_digit(),
+            Radix::Octal => matches!(b, b'0'..=b'7'),
         }
-    }
-}
-
-// By hand, as that of `Symbol`: a derive gives no contract.
-impl fmt::Display for Kind {
-    ghost output = { λ k. Some (kind_text k) };
-
-    fn fmt<W: fmt::Write>(&self, f: &mut fmt::Formatter<W>) -> fmt::Result {
-        f.pad(self.text())
     }
 }
 
@@ -98,7 +79,7 @@ pub enum Symbol {
 }
 
 impl Symbol {
-    // The text that a source has for it.
+    // How a source writes it.
     fn text(self) -> &'static str
         ensures { result.now ≡ symbol_text self }
     {
@@ -125,6 +106,7 @@ impl Symbol {
     }
 }
 
+// By hand: a derive gives no contract.
 impl fmt::Display for Symbol {
     ghost output = { λ s. Some (symbol_text s) };
 

@@ -1,12 +1,13 @@
 // A whole source: its first refusal, or all its tokens.
 ghost use Rattle.std.specs.Prelude.{◌≡◌, List, [], IfOk};
 ghost use Rattle.lexer.specs.declared.token.Token.{Token};
-ghost use Rattle.lexer.specs.Whole.{Checked, Listed};
+ghost use Rattle.lexer.specs.Whole.{PassesText, ListsTokens};
 ghost use Rattle.lexer.specs.Theorems.{TextStands};
 
 use crate::fault::TextFault;
 use crate::scan::{next, peek};
 use crate::token::Token;
+use base::limits::MOST_SOURCE_BYTES;
 use base::reserved::Reserved;
 use std::alloc::{AllocError, Global};
 use std::marker::Model;
@@ -14,11 +15,11 @@ use std::marker::Model;
 /// Looks at the whole source, before any of its tokens is used, and answers the refusal at the smallest place, if there is
 /// one. Refuses with 1 where the source has over 32,768 bytes, with 2 where no token begins, with 3 at a bad word or number,
 /// and with 4 at a comment without an end.
-#[tactic(auto, unfolding(crate::specs::Cut::texted))]
+#[tactic(auto, unfolding(crate::specs::Cut::token_list))]
 pub fn check(source: &[u8]) -> Result<(), TextFault>
-    ensures { Checked source.now result }
+    ensures { PassesText source.now result }
 {
-    if source.len() > 32768 {
+    if source.len() > MOST_SOURCE_BYTES {
         return Err(TextFault::TooLong);
     }
     let end = source.len();
@@ -33,7 +34,7 @@ pub fn check(source: &[u8]) -> Result<(), TextFault>
 /// made once and serves any number of sources.
 #[derive(Drop)]
 pub struct Tokens<'a> {
-    list: Reserved<Token<'a>, 32768>,
+    list: Reserved<Token<'a>, MOST_SOURCE_BYTES>,
 }
 
 // Contracts see the tokens of the source that was cut last.
@@ -56,7 +57,7 @@ impl<'a> Tokens<'a> {
     /// with 1 to 4, and then there are none.
     #[tactic(auto, using(crate::proofs::Readings::reads_short))]
     pub fn cut(&mut self, source: &'a [u8]) -> Result<(), TextFault>
-        ensures { Listed source.now self.new result }
+        ensures { ListsTokens source.now self.new result }
     {
         self.list.clear();
         check(source)?;
@@ -77,7 +78,7 @@ impl<'a> Tokens<'a> {
     }
 }
 
-/// A law: tokens, blanks and comments put together again are the source; each token is the longest that begins at its place;
+/// A law: tokens, blanks and comments put together again are the source; each token is the longest that begins at its offset;
 /// a refusal stands at the first byte where no token begins.
 #[tactic(auto, using(crate::proofs::Readings::text_stands))]
 pub fn text_stands()

@@ -2,7 +2,7 @@
 use base::instr::Instr;
 use base::op::Op;
 use lexer::search::Named;
-use report::compiled::Made;
+use report::compiled::Compiled;
 use report::instruction::shown;
 use report::line_map::line_map;
 use report::mark;
@@ -78,16 +78,16 @@ impl Page<'_> {
 }
 
 /// Prints the figures of a source's code, and each line with the instructions that come from it.
-pub fn listing(rt: &HostRuntime, made: &Made) -> anyhow::Result<()> {
+pub fn listing(rt: &HostRuntime, compiled: &Compiled) -> anyhow::Result<()> {
     let heap = rt.alloc();
-    let code = made.code();
-    let lines = Lines::of(heap, made.source())?;
-    let line_of = line_map(heap, made, &lines)?;
+    let code = compiled.code();
+    let lines = Lines::of(heap, compiled.source())?;
+    let line_of = line_map(heap, compiled, &lines)?;
     let count = lines.count();
     let mut page = Page {
         heap,
         lines,
-        names: made.names(),
+        names: compiled.names(),
         here: 0,
         far: 0,
         height: 0,

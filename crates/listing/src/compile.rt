@@ -2,15 +2,21 @@
 use anyhow::anyhow;
 use base::code::Figures;
 use base::instr::Instr;
+use base::limits::MOST_INSTRUCTIONS;
 use image::read::decode;
 use lexer::whole::Tokens;
-use report::compiled::{MOST_INSTRUCTIONS, Made, make};
+use report::compiled::{Compiled, compile_file};
 use std::fs;
 use std::fs::File;
 use std::io::Write as _;
 
 // Whether `bytes` are the image, and are read back as the code from which it was made.
-fn holds(rt: &HostRuntime, made: &Made, image: &[u8], bytes: &[u8]) -> anyhow::Result<bool> {
+fn holds(
+    rt: &HostRuntime,
+    compiled: &Compiled,
+    image: &[u8],
+    bytes: &[u8],
+) -> anyhow::Result<bool> {
     let mut table = vec![in rt.alloc(); Instr::default(); MOST_INSTRUCTIONS]?;
     let Figures {
         cells,
@@ -18,7 +24,7 @@ fn holds(rt: &HostRuntime, made: &Made, image: &[u8], bytes: &[u8]) -> anyhow::R
         count,
     } = decode(bytes, table.as_mut_slice())?;
     table.truncate(count as usize);
-    let code = made.code();
+    let code = compiled.code();
     Ok(
         bytes == image
             && cells == code.cells
@@ -30,7 +36,7 @@ fn holds(rt: &HostRuntime, made: &Made, image: &[u8], bytes: &[u8]) -> anyhow::R
 // Writes the image to a new file and to the disk, reads it back, and gives it the name of the target.
 fn fill(
     rt: &HostRuntime,
-    made: &Made,
+    compiled: &Compiled,
     image: &[u8],
     mut file: File,
     beside: &str,
@@ -39,7 +45,7 @@ fn fill(
     file.write_all(image)?;
     file.sync_all()?;
     let bytes = fs::read(rt, beside)?;
-    if !holds(rt, made, image, bytes.as_slice())? {
+    if !holds(rt, compiled, image, bytes.as_slice())? {
         return Err(anyhow!("what was written is read back otherwise"));
     }
     fs::rename(rt, beside, target)?;
@@ -80,13 +86,13 @@ fn objection(rt: &HostRuntime, path: &str, target: &str) -> Option<&'static str>
 // was. If `beside` exists already, nothing is written.
 fn put(
     rt: &HostRuntime,
-    made: &Made,
+    compiled: &Compiled,
     image: &[u8],
     beside: &str,
     target: &str,
 ) -> anyhow::Result<()> {
     let file = File::create_new(rt, beside)?;
-    if let Err(e) = fill(rt, made, image, file, beside, target) {
+    if let Err(e) = fill(rt, compiled, image, file, beside, target) {
         let _ = fs::remove_file(rt, beside);
         return Err(e);
     }
@@ -96,7 +102,7 @@ fn put(
 // Writes the image to the target. If it is not written, prints why and fails.
 fn store(
     rt: &HostRuntime,
-    made: &Made,
+    compiled: &Compiled,
     image: &[u8],
     path: &str,
     target: &str,
@@ -106,7 +112,7 @@ fn store(
         return Err(anyhow!("the image cannot be written"));
     }
     let beside = format!(in rt.alloc(); "{target}.part")?;
-    if let Err(e) = put(rt, made, image, beside.as_str(), target) {
+    if let Err(e) = put(rt, compiled, image, beside.as_str(), target) {
         println!(rt; "{target}: cannot be written by way of {beside}: {e}")?;
         return Err(anyhow!("the image cannot be written"));
     }
@@ -114,14 +120,14 @@ fn store(
 }
 
 // Prints the figures of the source and of its image.
-fn figures(rt: &HostRuntime, made: &Made, image: &[u8]) -> anyhow::Result<()> {
-    let source = made.source();
+fn figures(rt: &HostRuntime, compiled: &Compiled, image: &[u8]) -> anyhow::Result<()> {
+    let source = compiled.source();
     let mut tokens = Tokens::new(rt.alloc())?;
     tokens.cut(source)?;
-    let code = made.code();
+    let code = compiled.code();
     println!(rt; "source bytes {:>6}", source.len())?;
     println!(rt; "tokens       {:>6}", tokens.as_slice().len())?;
-    println!(rt; "names        {:>6}", made.names().len())?;
+    println!(rt; "names        {:>6}", compiled.names().len())?;
     println!(rt; "cells        {:>6}", code.cells)?;
     println!(rt; "depth        {:>6}", code.depth)?;
     println!(rt; "instructions {:>6}", code.instructions.len())?;
@@ -132,8 +138,8 @@ fn figures(rt: &HostRuntime, made: &Made, image: &[u8]) -> anyhow::Result<()> {
 /// Compiles the source in the file `path`, writes its image to the file `target`, and prints its figures. If the
 /// source is refused or the image cannot be written, prints why and fails.
 pub fn compile(rt: &HostRuntime, path: &str, target: &str) -> anyhow::Result<()> {
-    let made = make(rt, path)?;
-    let image = made.image(rt.alloc())?;
-    store(rt, &made, image.as_slice(), path, target)?;
-    figures(rt, &made, image.as_slice())
+    let compiled = compile_file(rt, path)?;
+    let image = compiled.image(rt.alloc())?;
+    store(rt, &compiled, image.as_slice(), path, target)?;
+    figures(rt, &compiled, image.as_slice())
 }

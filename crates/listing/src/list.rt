@@ -3,11 +3,12 @@ use crate::annotated::listing;
 use anyhow::anyhow;
 use base::code::Figures;
 use base::instr::Instr;
+use base::limits::MOST_INSTRUCTIONS;
 use base::refusal::Refusal;
 use image::fault::ImageFault;
 use image::read::decode;
 use image::write::{entry_size, size};
-use report::compiled::{MOST_INSTRUCTIONS, make};
+use report::compiled::compile_file;
 use report::instruction::shown;
 use report::source::load;
 
@@ -45,6 +46,6 @@ pub fn list(rt: &HostRuntime, path: &str) -> anyhow::Result<()> {
             lines(rt, figures, bytes.len(), table.as_slice())
         }
         Err(fault) if path.ends_with(".image") => refused(rt, path, fault),
-        Err(_) => listing(rt, &make(rt, path)?),
+        Err(_) => listing(rt, &compile_file(rt, path)?),
     }
 }

@@ -2,7 +2,7 @@
 use lexer::name::Name;
 use lexer::search::{Named, find};
 use parser::node::Node;
-use report::compiled::make;
+use report::compiled::compile_file;
 use report::source::Lines;
 use sema::entry::{NameEntry, Sort};
 use std::alloc::Global;
@@ -21,39 +21,40 @@ struct Mention {
     // the index of the name in the table of names
     name: usize,
     how: How,
-    // the place of the use in the source
-    place: usize,
+    // the offset of the use in the source
+    offset: usize,
 }
 
-// The name that an entry has, what is done to it, and its place. The variable of a FOR is written at the entry of
-// its first value. An assignment to a field has an entry before it that reads the word. The entry of a subscript
-// left of `:=` is passed over, since the entry of the assignment has the name too.
+// The name that a node has, what is done to it, and its offset. The variable of a FOR is written at the node of
+// its first value. An assignment to a field has a node before it that reads the word. The node of a subscript
+// left of `:=` is passed over, since the node of the assignment has the name too.
 fn mentioned(node: Node) -> Option<(Name, How, usize)> {
     match node {
-        Node::Simple(name, _, place) | Node::Array(name, _, _, _, place, _) => {
-            Some((name, How::Declared, place))
+        Node::Simple(name, _, offset) | Node::Array(name, _, _, _, offset, _) => {
+            Some((name, How::Declared, offset))
         }
-        Node::Store(name, place, _) | Node::StoreAt(name, place, _) | Node::First(name, place, _) =>
-            Some((name, How::Written, place)),
-        Node::Load(name, place) | Node::Fetch(name, place) => Some((name, How::Read, place)),
-        Node::Index(name, place, _) | Node::FetchAt(name, place, _) => {
-            Some((name, How::Read, place))
+        Node::Store(name, offset, _)
+        | Node::StoreAt(name, offset, _)
+        | Node::First(name, offset, _) => Some((name, How::Written, offset)),
+        Node::Load(name, offset) | Node::Fetch(name, offset) => Some((name, How::Read, offset)),
+        Node::Index(name, offset, _) | Node::FetchAt(name, offset, _) => {
+            Some((name, How::Read, offset))
         }
         _ => None,
     }
 }
 
-// The uses of names, in the order of their places.
+// The uses of names, in the order of their offsets.
 fn mentions(heap: Global, nodes: &[Node], names: &[NameEntry]) -> anyhow::Result<Vec<Mention>> {
     let mut list = Vec::new(heap);
     for node in nodes {
-        if let Some((name, how, place)) = mentioned(*node) {
+        if let Some((name, how, offset)) = mentioned(*node) {
             if let Some(name) = find(names, name.name()) {
-                list.push(Mention { name, how, place })?;
+                list.push(Mention { name, how, offset })?;
             }
         }
     }
-    list.sort_by_key(|mention| mention.place)?;
+    list.sort_by_key(|mention| mention.offset)?;
     Ok(list)
 }
 
@@ -73,7 +74,7 @@ impl NameMap<'_> {
             if mention.name != name || mention.how != how {
                 continue;
             }
-            let line = self.lines.at(mention.place);
+            let line = self.lines.at(mention.offset);
             if line == last {
                 continue;
             }
@@ -84,7 +85,7 @@ impl NameMap<'_> {
         Ok(())
     }
 
-    fn row(&self, rt: &HostRuntime, place: usize, entry: &NameEntry) -> anyhow::Result<()> {
+    fn row(&self, rt: &HostRuntime, index: usize, entry: &NameEntry) -> anyhow::Result<()> {
         let name = std::str::from_utf8(entry.name())?;
         let mut sort = String::new(self.heap);
         match entry.sort {
@@ -92,25 +93,25 @@ impl NameMap<'_> {
             Sort::Array => write!(sort, "(0:{})", entry.cells.saturating_sub(1))?,
         }
         let mut uses = String::new(self.heap);
-        self.put_lines(&mut uses, place, How::Declared, "declared ")?;
-        self.put_lines(&mut uses, place, How::Written, "; written ")?;
-        self.put_lines(&mut uses, place, How::Read, "; read ")?;
+        self.put_lines(&mut uses, index, How::Declared, "declared ")?;
+        self.put_lines(&mut uses, index, How::Written, "; written ")?;
+        self.put_lines(&mut uses, index, How::Read, "; read ")?;
         println!(rt;
             "{name:<15} {:<7} {sort:<9} {:>5} {:>5}  {uses}",
-            entry.kind, entry.cell, entry.cells
+            entry.value_type, entry.cell, entry.cells
         )?;
         Ok(())
     }
 
-    fn is_used(&self, place: usize) -> bool {
-        self.mentions.as_slice().iter().any(|mention| mention.name == place
+    fn is_used(&self, index: usize) -> bool {
+        self.mentions.as_slice().iter().any(|mention| mention.name == index
             && mention.how != How::Declared)
     }
 
     fn put_unused(&self, out: &mut String) -> anyhow::Result<()> {
         let mut link = "";
-        for (place, entry) in self.names.iter().enumerate() {
-            if !self.is_used(place) {
+        for (index, entry) in self.names.iter().enumerate() {
+            if !self.is_used(index) {
                 let name = std::str::from_utf8(entry.name())?;
                 write!(out, "{link}{name}")?;
                 link = ", ";
@@ -132,8 +133,8 @@ fn arrays(names: &[NameEntry]) -> usize {
 
 fn rows(rt: &HostRuntime, map: &NameMap<'_>, cells: u16) -> anyhow::Result<()> {
     println!(rt; "name            type    sort       cell cells  lines")?;
-    for (place, entry) in map.names.iter().enumerate() {
-        map.row(rt, place, entry)?;
+    for (index, entry) in map.names.iter().enumerate() {
+        map.row(rt, index, entry)?;
     }
     let count = map.names.len();
     let arrays = arrays(map.names);
@@ -148,12 +149,12 @@ fn rows(rt: &HostRuntime, map: &NameMap<'_>, cells: u16) -> anyhow::Result<()> {
 /// used. If the source is refused, prints why and fails.
 pub fn map(rt: &HostRuntime, path: &str) -> anyhow::Result<()> {
     let heap = rt.alloc();
-    let made = make(rt, path)?;
+    let compiled = compile_file(rt, path)?;
     let map = NameMap {
         heap,
-        lines: Lines::of(heap, made.source())?,
-        names: made.names(),
-        mentions: mentions(heap, made.nodes(), made.names())?,
+        lines: Lines::of(heap, compiled.source())?,
+        names: compiled.names(),
+        mentions: mentions(heap, compiled.nodes(), compiled.names())?,
     };
-    rows(rt, &map, made.code().cells)
+    rows(rt, &map, compiled.code().cells)
 }

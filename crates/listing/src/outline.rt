@@ -1,9 +1,9 @@
-// `spl parse`: an outline of a source. The syntax list is gone through once. The entries of what a statement reads
-// come before the statement's own entry.
+// `spl parse`: an outline of a source. The syntax list is gone through once. The nodes of what a statement reads
+// come before the statement's own node.
 use lexer::name::Name;
 use lexer::search::{Named, find};
-use lexer::token::Kind;
 use parser::node::Node;
+use parser::value_type::ValueType;
 use parser::workspace::Workspace;
 use report::fields::Problem;
 use report::mark::tell;
@@ -22,17 +22,17 @@ enum Holder {
     Case(usize),
 }
 
-// A name, and the place where it is used.
+// A name, and the offset where it is used.
 #[derive(Clone, Copy)]
 struct Use {
     name: Name,
-    place: usize,
+    offset: usize,
 }
 
-// The names used, each once, in the order of their first places.
+// The names used, each once, in the order of their first offsets.
 fn distinct(heap: Global, uses: &[Use]) -> Result<Vec<Name>, Problem> {
     let mut sorted = Vec::from_slice(heap, uses)?;
-    sorted.sort_by_key(|used| used.place)?;
+    sorted.sort_by_key(|used| used.offset)?;
     let mut names = Vec::new(heap);
     for used in sorted.as_slice() {
         if find(names.as_slice(), used.name.name()).is_none() {
@@ -59,9 +59,9 @@ fn put_names(out: &mut String, names: &[Name]) -> Result<(), Problem> {
 struct Outline<'a> {
     heap: Global,
     source: &'a [u8],
-    // the place that was printed last
+    // the offset that was printed last
     spot: Spot,
-    // the statements that contain the next entry, the outermost first
+    // the statements that contain the next node, the outermost first
     around: Vec<Holder>,
     uses: Vec<Use>,
     // how many of the uses belong to printed lines
@@ -102,20 +102,20 @@ impl Outline<'_> {
         put_names(out, names.as_slice())
     }
 
-    // Prints a line of the outline, with the number of its line in the source if its place is known.
+    // Prints a line of the outline, with the number of its line in the source if its offset is known.
     fn line(
         &mut self,
         rt: &HostRuntime,
         depth: usize,
-        place: Option<usize>,
+        offset: Option<usize>,
         what: &str,
     ) -> anyhow::Result<()> {
         let indent = depth.saturating_mul(2);
         let mut text = String::new(self.heap);
         write!(text, "{:indent$}{what}", "")?;
         self.put_reads(&mut text)?;
-        if let Some(place) = place {
-            self.spot = self.spot.onward(self.source, place);
+        if let Some(offset) = offset {
+            self.spot = self.spot.onward(self.source, offset);
             println!(rt; "{:>5}  {text}", self.spot.line)?;
         } else {
             println!(rt; "       {text}")?;
@@ -124,9 +124,14 @@ impl Outline<'_> {
     }
 
     // Prints a line of the innermost statement that contains others.
-    fn held(&mut self, rt: &HostRuntime, place: Option<usize>, what: &str) -> anyhow::Result<()> {
+    fn nested(
+        &mut self,
+        rt: &HostRuntime,
+        offset: Option<usize>,
+        what: &str,
+    ) -> anyhow::Result<()> {
         let depth = self.around.len().saturating_sub(1);
-        self.line(rt, depth, place, what)
+        self.line(rt, depth, offset, what)
     }
 
     fn count(&mut self, depth: usize) {
@@ -146,14 +151,14 @@ impl Outline<'_> {
         Ok(())
     }
 
-    fn read(&mut self, name: Name, place: usize) -> anyhow::Result<()> {
-        self.uses.push(Use { name, place })?;
+    fn read(&mut self, name: Name, offset: usize) -> anyhow::Result<()> {
+        self.uses.push(Use { name, offset })?;
         Ok(())
     }
 
     // Notes a name that a statement writes. It is used, but it is not read.
-    fn written(&mut self, name: Name, place: usize) -> anyhow::Result<()> {
-        self.uses.push(Use { name, place })?;
+    fn written(&mut self, name: Name, offset: usize) -> anyhow::Result<()> {
+        self.uses.push(Use { name, offset })?;
         self.told = self.uses.len();
         Ok(())
     }
@@ -162,36 +167,36 @@ impl Outline<'_> {
         &mut self,
         rt: &HostRuntime,
         name: Name,
-        kind: Kind,
-        place: usize,
+        value_type: ValueType,
+        offset: usize,
     ) -> anyhow::Result<()> {
         let mut what = String::new(self.heap);
-        write!(what, "{kind} ")?;
+        write!(what, "{value_type} ")?;
         put_text(&mut what, name.name())?;
-        self.line(rt, 0, Some(place), what.as_str())
+        self.line(rt, 0, Some(offset), what.as_str())
     }
 
     fn array(
         &mut self,
         rt: &HostRuntime,
         name: Name,
-        kind: Kind,
+        value_type: ValueType,
         bounds: (u16, u16),
-        place: usize,
+        offset: usize,
     ) -> anyhow::Result<()> {
         let (low, high) = bounds;
         let mut what = String::new(self.heap);
-        write!(what, "{kind} ARRAY ")?;
+        write!(what, "{value_type} ARRAY ")?;
         put_text(&mut what, name.name())?;
         write!(what, "({low}:{high})")?;
-        self.line(rt, 0, Some(place), what.as_str())
+        self.line(rt, 0, Some(offset), what.as_str())
     }
 
     fn assignment(
         &mut self,
         rt: &HostRuntime,
         name: Name,
-        place: usize,
+        offset: usize,
         subscript: &str,
     ) -> anyhow::Result<()> {
         let mut what = String::new(self.heap);
@@ -199,30 +204,30 @@ impl Outline<'_> {
         what.push_str(subscript)?;
         if let Some((first, second)) = self.field.take() {
             // the other bits of the word stay, so the word is read
-            self.read(name, place)?;
+            self.read(name, offset)?;
             write!(what, ".({first}:{second})")?;
         }
         what.push_str(" :=")?;
         let depth = self.around.len();
         self.count(depth.saturating_add(1));
-        self.line(rt, depth, Some(place), what.as_str())?;
-        self.written(name, place)
+        self.line(rt, depth, Some(offset), what.as_str())?;
+        self.written(name, offset)
     }
 
     // Comes after the condition of an IF or a WHILE.
     fn then(&mut self, rt: &HostRuntime) -> anyhow::Result<()> {
-        let place = self.condition.take();
+        let offset = self.condition.take();
         if let Some(Holder::While) = self.around.last() {
-            return self.held(rt, place, "WHILE");
+            return self.nested(rt, offset, "WHILE");
         }
-        self.held(rt, place, "IF")?;
-        self.held(rt, None, "THEN")
+        self.nested(rt, offset, "IF")?;
+        self.nested(rt, None, "THEN")
     }
 
     // Comes after the condition of a DO.
     fn until(&mut self, rt: &HostRuntime) -> anyhow::Result<()> {
-        let place = self.condition.take();
-        self.held(rt, place, "UNTIL")?;
+        let offset = self.condition.take();
+        self.nested(rt, offset, "UNTIL")?;
         self.end()
     }
 
@@ -231,15 +236,15 @@ impl Outline<'_> {
         &mut self,
         rt: &HostRuntime,
         name: Name,
-        place: usize,
+        offset: usize,
         opened: usize,
     ) -> anyhow::Result<()> {
         let mut what = String::new(self.heap);
         what.push_str("FOR ")?;
         put_text(&mut what, name.name())?;
         self.begin(Holder::For)?;
-        self.held(rt, Some(opened), what.as_str())?;
-        self.written(name, place)
+        self.nested(rt, Some(opened), what.as_str())?;
+        self.written(name, offset)
     }
 
     // Comes before each statement of a CASE.
@@ -251,39 +256,39 @@ impl Outline<'_> {
         *begun = number.saturating_add(1);
         let mut what = String::new(self.heap);
         write!(what, "{number}:")?;
-        self.held(rt, None, what.as_str())
+        self.nested(rt, None, what.as_str())
     }
 
     fn entry(&mut self, rt: &HostRuntime, node: Node) -> anyhow::Result<()> {
         match node {
-            Node::Simple(name, kind, place) => self.simple(rt, name, kind, place),
-            Node::Array(name, kind, low, high, place, _) => {
-                self.array(rt, name, kind, (low, high), place)
+            Node::Simple(name, value_type, offset) => self.simple(rt, name, value_type, offset),
+            Node::Array(name, value_type, low, high, offset, _) => {
+                self.array(rt, name, value_type, (low, high), offset)
             }
-            Node::Load(name, place) | Node::Index(name, place, _) => self.read(name, place),
-            Node::Store(name, place, _) => self.assignment(rt, name, place, ""),
-            Node::StoreAt(name, place, _) => self.assignment(rt, name, place, "(subscript)"),
+            Node::Load(name, offset) | Node::Index(name, offset, _) => self.read(name, offset),
+            Node::Store(name, offset, _) => self.assignment(rt, name, offset, ""),
+            Node::StoreAt(name, offset, _) => self.assignment(rt, name, offset, "(subscript)"),
             Node::Deposit(first, second, _) => {
                 self.field = Some((first, second));
                 Ok(())
             }
-            Node::Test(place) => {
-                self.condition = self.condition.or(Some(place));
+            Node::Test(offset) => {
+                self.condition = self.condition.or(Some(offset));
                 Ok(())
             }
             Node::If => self.begin(Holder::If),
             Node::While => self.begin(Holder::While),
             Node::Then => self.then(rt),
-            Node::Else => self.held(rt, None, "ELSE"),
+            Node::Else => self.nested(rt, None, "ELSE"),
             Node::Do => {
                 self.begin(Holder::Do)?;
-                self.held(rt, None, "DO")
+                self.nested(rt, None, "DO")
             }
             Node::Done => self.until(rt),
-            Node::For(name, place, opened) => self.counted(rt, name, place, opened),
-            Node::Case(place) => {
+            Node::For(name, offset, opened) => self.counted(rt, name, offset, opened),
+            Node::Case(offset) => {
                 self.begin(Holder::Case(0))?;
-                self.held(rt, Some(place), "CASE")
+                self.nested(rt, Some(offset), "CASE")
             }
             Node::Arm => self.arm(rt),
             Node::Fi | Node::Loop | Node::Drop | Node::Esac => self.end(),

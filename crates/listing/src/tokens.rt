@@ -1,10 +1,11 @@
 // `spl tokens`: the tokens of a source.
 use lexer::reserved::keyword;
-use lexer::token::{Kind, Token};
+use lexer::token::Token;
 use lexer::whole::Tokens;
+use parser::value_type::ValueType;
 use report::mark::tell;
 use report::source::{Spot, load};
-use report::tokens::place_of;
+use report::tokens::offset_of;
 
 // Prints the kind of a token, its text, and the value of a number.
 fn describe(rt: &HostRuntime, t: &Token<'_>) -> anyhow::Result<()> {
@@ -18,9 +19,10 @@ fn describe(rt: &HostRuntime, t: &Token<'_>) -> anyhow::Result<()> {
             };
             println!(rt; "{kind:<8}  {name}")?;
         }
-        Token::Number(w, kind, value, _) => {
+        Token::Number(w, radix, value, _) => {
             let digits = std::str::from_utf8(w)?;
-            println!(rt; "{kind:<8}  {digits} = {value}")?;
+            let value_type = ValueType::of(*radix);
+            println!(rt; "{value_type:<8}  {digits} = {value}")?;
         }
         Token::Symbol(s, _) => println!(rt; "symbol    {s}")?,
     }
@@ -31,8 +33,13 @@ fn lines(rt: &HostRuntime, source: &[u8], tokens: &[Token<'_>]) -> anyhow::Resul
     let mut spot = Spot::TOP;
     println!(rt; " line  col  place  kind      text")?;
     for t in tokens {
-        spot = spot.onward(source, place_of(t));
-        print!(rt; "{:>5} {:>4} {:>6}  ", spot.line, spot.column(), spot.place)?;
+        spot = spot.onward(source, offset_of(t));
+        print!(rt;
+            "{:>5} {:>4} {:>6}  ",
+            spot.line,
+            spot.column(),
+            spot.offset
+        )?;
         describe(rt, t)?;
     }
     println!(rt; "{} tokens", tokens.len())?;

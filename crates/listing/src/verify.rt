@@ -2,10 +2,11 @@
 use anyhow::anyhow;
 use base::code::Code;
 use base::instr::Instr;
+use base::limits::MOST_INSTRUCTIONS;
 use base::refusal::Refusal;
 use image::fault::ImageFault;
 use image::read::decode;
-use report::compiled::{MOST_INSTRUCTIONS, Made, make};
+use report::compiled::{Compiled, compile_file};
 use report::instruction::shown;
 use report::source::load;
 
@@ -60,7 +61,7 @@ fn refused(rt: &HostRuntime, fault: ImageFault) -> anyhow::Result<()> {
 }
 
 // Prints how the bytes differ from the image, or why they are no image.
-fn tell(rt: &HostRuntime, made: &Made, bytes: &[u8]) -> anyhow::Result<()> {
+fn tell(rt: &HostRuntime, compiled: &Compiled, bytes: &[u8]) -> anyhow::Result<()> {
     let mut table = vec![in rt.alloc(); Instr::default(); MOST_INSTRUCTIONS]?;
     match decode(bytes, table.as_mut_slice()) {
         Ok(figures) => {
@@ -70,7 +71,7 @@ fn tell(rt: &HostRuntime, made: &Made, bytes: &[u8]) -> anyhow::Result<()> {
                 depth: figures.depth,
                 instructions: table.as_slice(),
             };
-            differences(rt, made.code(), image)
+            differences(rt, compiled.code(), image)
         }
         Err(fault) => refused(rt, fault),
     }
@@ -79,14 +80,14 @@ fn tell(rt: &HostRuntime, made: &Made, bytes: &[u8]) -> anyhow::Result<()> {
 /// Compiles the source in the file `path`, and prints whether the bytes of the file `target` are its image. If they
 /// are not, prints where they differ and fails. If the source is refused, prints why and fails.
 pub fn verify(rt: &HostRuntime, path: &str, target: &str) -> anyhow::Result<()> {
-    let made = make(rt, path)?;
-    let image = made.image(rt.alloc())?;
+    let compiled = compile_file(rt, path)?;
+    let image = compiled.image(rt.alloc())?;
     let bytes = load(rt, target)?;
     if bytes.as_slice() == image.as_slice() {
         println!(rt; "{target} is the image of {path}")?;
         return Ok(());
     }
     println!(rt; "{target} is not the image of {path}")?;
-    tell(rt, &made, bytes.as_slice())?;
+    tell(rt, &compiled, bytes.as_slice())?;
     Err(anyhow!("the image is another"))
 }

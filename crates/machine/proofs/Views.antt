@@ -2,9 +2,9 @@
 use Rattle.std.proofs.Common.{◌≡◌, ℕ, zero, suc, ◌+◌, ◌-◌, ◌<◌, ◌≤◌, Bool, true, false, cond, ltb, ◌≢◌, List, ◌∷◌, length, get_or, set, Ok, Err, sym, refl, ap, ◌∙◌, arith, get_or-set_other, get_or-set_same}
 use Rattle.std.proofs.lemmas.Bool.{ltb-true}
 use Rattle.machine.specs.declared.ending.Ending.{Ending}
-use Rattle.machine.specs.declared.vm.Move.{Move}
-use Rattle.machine.specs.declared.vm.Move.TheVariants.{On, Push, Write}
-use Rattle.machine.specs.Machine.{State, made, pops}
+use Rattle.machine.specs.declared.registers.Move.{Move}
+use Rattle.machine.specs.declared.registers.Move.TheVariants.{On, Push, Write}
+use Rattle.machine.specs.Machine.{State, after_move, pops}
 use Rattle.machine.specs.Stacks.{stack_of, hd, tl, off, Shows}
 
 pub length_stack_of : (h : ℕ) (st : List ℕ) → length (stack_of h st) ≡ h
@@ -44,9 +44,9 @@ shows_cond : (m : Move) (s t : State) (b : Bool) (e : Ending) → (b ≡ true �
 shows_cond m s t true e h = h refl
 shows_cond m s t false e h = tt
 
-pub shows : (d : ℕ) (m : Move) (s : State) → pops m ≤ s.vm.height → d ≤ length s.stack → Shows m s (made d m s)
-shows d (On k q) s p l = sym (off_stack_of k s.vm.height s.stack)
+pub shows : (d : ℕ) (m : Move) (s : State) → pops m ≤ s.registers.height → d ≤ length s.stack → Shows m s (after_move d m s)
+shows d (On k q) s p l = sym (off_stack_of k s.registers.height s.stack)
 shows d (Push k w) s p l =
-    shows_cond (Push k w) s _ (ltb (s.vm.height - k) d) _
-    (λ e. push_stack_of (s.vm.height - k) w s.stack (omega (arith, ltb-true (s.vm.height - k) d e)) ∙ ap (λ (r : List ℕ). w ∷ r) (sym (off_stack_of k s.vm.height s.stack)))
-shows d (Write k c w q) s p l = shows_cond (Write k c w q) s _ (ltb c (length s.cells)) _ (λ e. sym (off_stack_of k s.vm.height s.stack))
+    shows_cond (Push k w) s _ (ltb (s.registers.height - k) d) _
+    (λ e. push_stack_of (s.registers.height - k) w s.stack (omega (arith, ltb-true (s.registers.height - k) d e)) ∙ ap (λ (r : List ℕ). w ∷ r) (sym (off_stack_of k s.registers.height s.stack)))
+shows d (Write k c w q) s p l = shows_cond (Write k c w q) s _ (ltb c (length s.cells)) _ (λ e. sym (off_stack_of k s.registers.height s.stack))

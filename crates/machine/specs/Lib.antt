@@ -7,4 +7,4 @@ pub mod Registers
 pub mod Faults
 pub mod Sessions
 pub mod Calls
-pub mod Lent
+pub mod Resources

@@ -2,13 +2,13 @@
 ghost use Rattle.std.specs.Prelude.{◌≡◌};
 ghost use Rattle.base.specs.Refusals.{told};
 ghost use Rattle.machine.specs.Faults.{call_refusal};
-ghost use Rattle.machine.specs.Lent.{state_of, call_of, call_leaves, calls_of, calls_leave, Lasts};
-ghost use Rattle.machine.specs.Calls.{unanswered, asked, answered};
+ghost use Rattle.machine.specs.Resources.{state_of, call_of, call_leaves, calls_of, calls_leave, Lasts};
+ghost use Rattle.machine.specs.Calls.{open_exchange, calls_in, answers_in};
 
 use crate::fault::CallFault;
-use crate::lent::Lent;
+use crate::registers::Registers;
+use crate::resources::Resources;
 use crate::session::Session;
-use crate::vm::Vm;
 use base::store::Store;
 
 /// A call of a session, as a value.
@@ -26,7 +26,7 @@ pub enum Call {
 #[derive(Clone, Copy, PartialEq, Eq, Debug)]
 pub enum Answer {
     /// The answer to a resume or to a report.
-    Registers(Vm),
+    Registers(Registers),
     /// The answer to a look: the word of the cell.
     Word(u16),
 }
@@ -43,7 +43,7 @@ pub struct Exchange {
 impl Exchange {
     /// The exchange of a call that is not made yet.
     pub fn of(call: Call) -> Exchange
-        ensures { result ≡ unanswered call }
+        ensures { result ≡ open_exchange call }
     {
         Exchange {
             call,
@@ -56,20 +56,21 @@ impl Session {
     /// Makes one call. Refuses with 30 to 35 where a resume does, and with 36 where a look does. A refusal changes nothing.
     pub fn call<S: Store>(
         &mut self,
-        lent: &mut Lent<'_, '_, '_, S>,
+        resources: &mut Resources<'_, '_, '_, S>,
         call: Call,
     ) -> Result<Answer, CallFault>
-        ensures answer { told call_refusal result ≡ call_of S.Store.words self.old lent.old call }
-        ensures left { state_of S.Store.words self.new lent.new ≡ call_leaves S.Store.words self.old lent.old call }
-        ensures lasts { Lasts S.Store.keeps self.old self.new lent.old lent.new }
+        ensures answer { told call_refusal result ≡ call_of S.Store.words self.old resources.old call }
+        ensures left { state_of S.Store.words self.new resources.new
+            ≡ call_leaves S.Store.words self.old resources.old call }
+        ensures lasts { Lasts S.Store.keeps self.old self.new resources.old resources.new }
     {
         match call {
             Call::Resume(limit) => {
-                let vm = self.resume(lent, limit)?;
-                Ok(Answer::Registers(vm))
+                let registers = self.resume(resources, limit)?;
+                Ok(Answer::Registers(registers))
             }
             Call::Look(cell) => {
-                let w = self.look(lent.store, cell)?;
+                let w = self.look(resources.store, cell)?;
                 Ok(Answer::Word(w))
             }
             Call::Report => Ok(Answer::Registers(self.report())),
@@ -78,15 +79,20 @@ impl Session {
 
     /// Makes the calls one after another, and puts the answer of each beside it. A refusal is the answer to its call, and
     /// the next call is made.
-    pub fn play<S: Store>(&mut self, lent: &mut Lent<'_, '_, '_, S>, exchanges: &mut [Exchange])
-        ensures calls { asked exchanges.new ≡ asked exchanges.old }
-        ensures answers { answered exchanges.new ≡ calls_of S.Store.words self.old lent.old (asked exchanges.old) }
-        ensures left { state_of S.Store.words self.new lent.new
-            ≡ calls_leave S.Store.words self.old lent.old (asked exchanges.old) }
-        ensures lasts { Lasts S.Store.keeps self.old self.new lent.old lent.new }
+    pub fn play<S: Store>(
+        &mut self,
+        resources: &mut Resources<'_, '_, '_, S>,
+        exchanges: &mut [Exchange],
+    )
+        ensures calls { calls_in exchanges.new ≡ calls_in exchanges.old }
+        ensures answers { answers_in exchanges.new
+            ≡ calls_of S.Store.words self.old resources.old (calls_in exchanges.old) }
+        ensures left { state_of S.Store.words self.new resources.new
+            ≡ calls_leave S.Store.words self.old resources.old (calls_in exchanges.old) }
+        ensures lasts { Lasts S.Store.keeps self.old self.new resources.old resources.new }
     {
         for exchange in exchanges.iter_mut() {
-            exchange.answer = self.call(lent, exchange.call);
+            exchange.answer = self.call(resources, exchange.call);
         }
     }
 }

@@ -1,7 +1,7 @@
 // How a run ends.
 ghost use Rattle.std.specs.Prelude.{◌≡◌};
 ghost use Rattle.machine.specs.declared.ending.Ending.TheVariants.{Stopped};
-ghost use Rattle.machine.specs.Endings.{number_of, numbered};
+ghost use Rattle.machine.specs.Endings.{number_of, ending_of_number};
 
 use arith::relation::UnknownRelation;
 use arith::stop::Stop;
@@ -27,7 +27,7 @@ pub enum Ending {
     /// Ending 8: no instruction has the number, or an operand is outside its rules.
     #[error("there is no such instruction, or an operand is outside its rules")]
     BadOperand,
-    /// Ending 9: the place is past the code, or a cell is past the store.
+    /// Ending 9: the program counter is past the code, or a cell is past the store.
     #[error("there is no instruction at the place, or no such cell in the store")]
     Outside,
 }
@@ -47,7 +47,7 @@ impl From<Ending> for u8 {
     }
 }
 
-// By hand, like those below: a derive gives no contract.
+// Written by hand, like those below, since a derive gives no contract.
 impl From<Stop> for Ending {
     ghost from_gives = { λ e r. r ≡ Stopped e };
 
@@ -57,7 +57,7 @@ impl From<Stop> for Ending {
 }
 
 impl From<UnknownOp> for Ending {
-    ghost from_gives = { λ _ r. r ≡ numbered 8 };
+    ghost from_gives = { λ _ r. r ≡ ending_of_number 8 };
 
     fn from(_e: UnknownOp) -> Ending {
         Ending::BadOperand
@@ -65,7 +65,7 @@ impl From<UnknownOp> for Ending {
 }
 
 impl From<UnknownRelation> for Ending {
-    ghost from_gives = { λ _ r. r ≡ numbered 8 };
+    ghost from_gives = { λ _ r. r ≡ ending_of_number 8 };
 
     fn from(_e: UnknownRelation) -> Ending {
         Ending::BadOperand
@@ -73,7 +73,7 @@ impl From<UnknownRelation> for Ending {
 }
 
 impl From<StoreFault> for Ending {
-    ghost from_gives = { λ _ r. r ≡ numbered 9 };
+    ghost from_gives = { λ _ r. r ≡ ending_of_number 9 };
 
     fn from(_e: StoreFault) -> Ending {
         Ending::Outside

@@ -68,7 +68,7 @@ impl From<CallFault> for Refusal {
     }
 }
 
-// By hand, like the one below: a derive gives no contract.
+// Written by hand, like the one below, since a derive gives no contract.
 impl From<SessionFault> for CallFault {
     ghost from_gives = { λ e r. r ≡ Session e };
 

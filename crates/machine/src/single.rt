@@ -2,12 +2,12 @@
 ghost use Rattle.std.specs.Prelude.{◌≡◌, length, replicate};
 ghost use Rattle.base.specs.Refusals.{told};
 ghost use Rattle.machine.specs.Faults.{refusal_of};
-ghost use Rattle.machine.specs.Sessions.{registers, single as single_of, single_leaves};
+ghost use Rattle.machine.specs.Sessions.{registers_after, single as single_of, single_leaves};
 
 use crate::fault::SessionFault;
-use crate::lent::Lent;
+use crate::registers::Registers;
+use crate::resources::Resources;
 use crate::session::Session;
-use crate::vm::Vm;
 use base::code::Code;
 use base::store::Store;
 
@@ -30,18 +30,19 @@ fn once<S: Store>(
     stack: &mut [u16],
     store: &mut S,
     limit: u64,
-) -> Result<Vm, SessionFault>
-    ensures answer { told refusal_of result ≡ registers (single_of code.entry limit stack.old (S.Store.words store.old)) }
+) -> Result<Registers, SessionFault>
+    ensures answer { told refusal_of result
+        ≡ registers_after (single_of code.entry limit stack.old (S.Store.words store.old)) }
     ensures left { S.Store.words store.new ≡ single_leaves code.entry limit stack.old (S.Store.words store.old) }
     ensures keeps { S.Store.keeps store.old store.new }
 {
-    let mut lent = Lent {
+    let mut resources = Resources {
         code: code.instructions,
         stack,
         store,
     };
-    let mut session = Session::start(code.cells, code.depth, &lent)?;
-    session.resume(&mut lent, limit)
+    let mut session = Session::start(code.cells, code.depth, &resources)?;
+    session.resume(&mut resources, limit)
 }
 
 /// Starts a session of the code, resumes it once with `limit` steps, and answers the registers. Refuses with 30 to 33 as the
@@ -51,9 +52,10 @@ pub fn single<S: Store>(
     stack: &mut [u16],
     store: &mut S,
     limit: u64,
-) -> Result<Vm, SessionFault>
+) -> Result<Registers, SessionFault>
     ensures cleared { stack.new ≡ replicate (length stack.old) 0 }
-    ensures answer { told refusal_of result ≡ registers (single_of code.entry limit stack.old (S.Store.words store.old)) }
+    ensures answer { told refusal_of result
+        ≡ registers_after (single_of code.entry limit stack.old (S.Store.words store.old)) }
     ensures left { S.Store.words store.new ≡ single_leaves code.entry limit stack.old (S.Store.words store.old) }
     ensures keeps { S.Store.keeps store.old store.new }
 {

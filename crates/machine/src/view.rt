@@ -1,14 +1,14 @@
 // What an instruction looks at, and what it does.
 ghost use Rattle.std.specs.Prelude.{◌≡◌, ◌-◌, ◌<◌, ◌≤◌, IfOk, slice_index};
 ghost use Rattle.base.specs.Lists.{room};
-ghost use Rattle.machine.specs.declared.vm.Move.TheVariants.{On, Push, Write};
-ghost use Rattle.machine.specs.Table.{held, cell_of, row as row_of};
+ghost use Rattle.machine.specs.declared.registers.Move.TheVariants.{On, Push, Write};
+ghost use Rattle.machine.specs.Table.{ready_when, cell_of, row as row_of};
 
 use super::ending::Ending;
-use super::vm::Move;
+use super::registers::Move;
 use arith::bits;
 use arith::field::Field;
-use arith::integer::{self, chosen, subscript, turns};
+use arith::integer::{self, case_index, subscript, turns};
 use arith::logical::{self, odd};
 use arith::relation::{Relation, compare, compare_logical};
 use arith::shift::Shift;
@@ -16,22 +16,22 @@ use base::list::Bounded;
 use base::op::Op;
 use base::store::Store;
 
-// A view has the operands of an instruction, its place, the stacked words, and the store.
+// A view has the operands of an instruction, its index, the stacked words, and the store.
 #[derive(Drop)]
 pub(crate) struct View<'a, 'b, 'c, S> {
     pub a: u16,
     pub b: u16,
-    pub place: u32,
+    pub pc: u32,
     pub stack: &'a Bounded<'b, u16>,
     pub store: &'c S,
-    ghost near: { place < 65536 },
+    ghost near: { pc < 65536 },
 }
 
 #[inline(always)]
-fn on(pops: u16, place: u32) -> Move
-    ensures { result ≡ On pops place }
+fn on(pops: u16, pc: u32) -> Move
+    ensures { result ≡ On pops pc }
 {
-    Move::On { pops, place }
+    Move::On { pops, pc }
 }
 
 #[inline(always)]
@@ -42,14 +42,14 @@ fn push(pops: u16, word: u16) -> Move
 }
 
 #[inline(always)]
-fn write(pops: u16, cell: u32, word: u16, place: u32) -> Move
-    ensures { result ≡ Write pops cell word place }
+fn write(pops: u16, cell: u32, word: u16, pc: u32) -> Move
+    ensures { result ≡ Write pops cell word pc }
 {
     Move::Write {
         pops,
         cell,
         word,
-        place,
+        pc,
     }
 }
 
@@ -75,7 +75,7 @@ impl<S: Store> View<'_, '_, '_, S> {
     // Checks that the operands fit, and then that `words` words are stacked.
     #[inline(always)]
     fn holds(&self, fits: bool, words: u16) -> Result<(), Ending>
-        ensures gives { result ≡ held fits words self.now.stack.now.len }
+        ensures gives { result ≡ ready_when fits words self.now.stack.now.len }
         ensures there { IfOk result (λ _. words ≤ self.now.stack.now.len) }
     {
         if !fits {
@@ -97,14 +97,14 @@ impl<S: Store> View<'_, '_, '_, S> {
 
     // The move that the instruction makes, or the ending.
     #[inline(always)]
-    pub(crate) fn row(&self, op: Op) -> Result<Move, Ending>
+    pub(crate) fn execute(&self, op: Op) -> Result<Move, Ending>
         ensures { let v = self.now in
             result
-            ≡ row_of op v.a v.b v.place v.stack.now.len (room v.stack.now) (S.Store.words v.store.now) }
+            ≡ row_of op v.a v.b v.pc v.stack.now.len (room v.stack.now) (S.Store.words v.store.now) }
     {
         let a = self.a;
         let b = self.b;
-        let next = self.place + 1;
+        let next = self.pc + 1;
         let single = b == 0;
         let plain = a == 0 && b == 0;
         match op {
@@ -245,7 +245,7 @@ impl<S: Store> View<'_, '_, '_, S> {
             }
             Op::Case => {
                 self.holds(true, 1)?;
-                let i = chosen(self.top(), b)?;
+                let i = case_index(self.top(), b)?;
                 Ok(on(1, u32::from(a) + u32::from(i)))
             }
             Op::For => {

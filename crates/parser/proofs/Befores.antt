@@ -6,11 +6,11 @@ use Rattle.parser.specs.declared.lexeme.Strength.TheVariants as strength
 use Rattle.parser.specs.declared.reader.Reader.{Reader}
 use Rattle.lexer.specs.declared.token.Keyword.TheVariants as kw
 use Rattle.lexer.specs.declared.token.Symbol.TheVariants as sign
-use Rattle.parser.specs.Entries as entry
+use Rattle.parser.specs.Nodes as node
 use Rattle.parser.specs.Machine.{Goal, stmt, word, put, sym, block, arms, otherwise, condition, declarations, finish, wants, right, more, program}
-use Rattle.parser.specs.Readers.{Done, FirstDone, Reads, StatementDone, runs}
+use Rattle.parser.specs.Readers.{ReadsGoals, ReadsFirst, Reads, ReadsStatement, runs}
 
-pub stated : (l : ℕ) (r r' : Reader) (a : Result (Unit {0}) GrammarFault) → Done 0 0 (stmt l ∷ []) r r' a → StatementDone l r r' a
+pub stated : (l : ℕ) (r r' : Reader) (a : Result (Unit {0}) GrammarFault) → ReadsGoals 0 0 (stmt l ∷ []) r r' a → ReadsStatement l r r' a
 stated l r r' (Ok u) d =
     let e = d.2.reads in (
       d.0,
@@ -19,10 +19,10 @@ stated l r r' (Ok u) d =
         in_block = λ k. e (block l ∷ k);
         in_case = λ k. e (arms l ∷ k);
         in_then = λ k. e (otherwise l ∷ k);
-        in_else = λ k. e (put entry.Fi ∷ k);
-        in_while = λ k. e (put entry.Loop ∷ k);
-        in_do = λ k. e (word kw.Until ∷ put entry.Until ∷ condition l ++ put entry.Done ∷ k);
-        in_for = λ n k. e (put (entry.Next n) ∷ put entry.Drop ∷ k);
+        in_else = λ k. e (put node.Fi ∷ k);
+        in_while = λ k. e (put node.Loop ∷ k);
+        in_do = λ k. e (word kw.Until ∷ put node.Until ∷ condition l ++ put node.Done ∷ k);
+        in_for = λ n k. e (put (node.Next n) ∷ put node.Drop ∷ k);
       },
     )
 stated l r r' (Err x) d =
@@ -32,15 +32,15 @@ stated l r r' (Err x) d =
         in_block = λ k. e (block l ∷ k);
         in_case = λ k. e (arms l ∷ k);
         in_then = λ k. e (otherwise l ∷ k);
-        in_else = λ k. e (put entry.Fi ∷ k);
-        in_while = λ k. e (put entry.Loop ∷ k);
-        in_do = λ k. e (word kw.Until ∷ put entry.Until ∷ condition l ++ put entry.Done ∷ k);
-        in_for = λ n k. e (put (entry.Next n) ∷ put entry.Drop ∷ k);
+        in_else = λ k. e (put node.Fi ∷ k);
+        in_while = λ k. e (put node.Loop ∷ k);
+        in_do = λ k. e (word kw.Until ∷ put node.Until ∷ condition l ++ put node.Done ∷ k);
+        in_for = λ n k. e (put (node.Next n) ∷ put node.Drop ∷ k);
       },
     )
 
 -- the same goals in another form
-pub same : (m c : ℕ) (gs hs : List Goal) (r r' : Reader) (a : Result (Unit {0}) GrammarFault) → ((k : List Goal) → runs r (hs ++ k) ≡ runs r (gs ++ k)) → Done m c gs r r' a → Done m c hs r r' a
+pub same : (m c : ℕ) (gs hs : List Goal) (r r' : Reader) (a : Result (Unit {0}) GrammarFault) → ((k : List Goal) → runs r (hs ++ k) ≡ runs r (gs ++ k)) → ReadsGoals m c gs r r' a → ReadsGoals m c hs r r' a
 same m c gs hs r r' (Ok u) e d = (d.0, d.1, record { reads = λ k. e k ∙ d.2.reads k })
 same m c gs hs r r' (Err x) e d = (d.0, λ k. e k ∙ d.1 k)
 
@@ -53,7 +53,7 @@ wants_right strength.Relation n l k = refl
 wants_right strength.Sum n l k = absurd (n refl)
 wants_right strength.Term n l k = refl
 
-pub leftmost : (s : Strength) → (s ≡ strength.Sum → ⊥) → (l : ℕ) (r r' : Reader) (a : Result (Unit {0}) GrammarFault) → Done 0 1 (right s l) r r' a → FirstDone s l r r' a
+pub leftmost : (s : Strength) → (s ≡ strength.Sum → ⊥) → (l : ℕ) (r r' : Reader) (a : Result (Unit {0}) GrammarFault) → ReadsGoals 0 1 (right s l) r r' a → ReadsFirst s l r r' a
 leftmost s n l r r' (Ok u) d = (d.0, d.1, λ k. ap (runs r) (wants_right s n l k) ∙ d.2.reads (more s l ∷ k))
 leftmost s n l r r' (Err x) d = (d.0, λ k. ap (runs r) (wants_right s n l k) ∙ d.1 (more s l ∷ k))
 

@@ -1,15 +1,15 @@
 -- One token cut from a text. Assumes nothing.
 use Rattle.std.proofs.Common.{◌≡◌, ℕ, ◌≤◌, List, [], ◌∷◌, ◌++◌, refl, ap, ◌∙◌, arith}
 use Rattle.base.specs.Refusals.{refuse}
-use Rattle.lexer.specs.Cut.{Piece, left}
-use Rattle.parser.specs.Entries.{Entry}
-use Rattle.parser.specs.Entries as entry
-use Rattle.parser.specs.Marks.{Mark, keyword, symbol, name, number, stop, live, seen}
-use Rattle.parser.specs.Machine.{Goal, Onward, sym, word, put, relation, lead, primary, paren, more, compare, fields, named, bits, upto, shift, count, test, clauses, stmt, block, otherwise, arms, target, target_at, becomes, variable, stepped, declarations, typed, simple, comma, item, low, high, finish, turns, stated, stepping, limited, feed, ending, later, behind}
+use Rattle.lexer.specs.Cut.{Piece, tokens_left}
+use Rattle.parser.specs.Nodes.{Node}
+use Rattle.parser.specs.Nodes as node
+use Rattle.parser.specs.Marks.{Mark, keyword, symbol, name, number, stop, live, piece_tok}
+use Rattle.parser.specs.Machine.{Goal, Onward, sym, word, put, relation, lead, primary, paren, more, compare, fields, named, bits, upto, shift, count, test, clauses, stmt, block, otherwise, arms, target, target_at, becomes, variable, stepped, declarations, typed, simple, comma, item, low, high, finish, turns, statement_at, step_at, limit_at, feed, ending, later, behind}
 
 -- nothing is read past the end of the text
-stop_same : (end : ℕ) (next other : Onward) (g : List Goal) (o : List Entry) → feed (ending end) next g o ≡ feed (ending end) other g o
-unfolding stated stepping limited
+stop_same : (end : ℕ) (next other : Onward) (g : List Goal) (o : List Node) → feed (ending end) next g o ≡ feed (ending end) other g o
+unfolding statement_at step_at limit_at
 stop_same end next other [] o = refl
 stop_same end next other (put e ∷ g) o = stop_same end next other g (o ++ e ∷ [])
 stop_same end next other (sym s ∷ g) o = refl
@@ -21,7 +21,7 @@ stop_same end next other (paren l ∷ g) o = refl
 stop_same end next other (more s l ∷ g) o = stop_same end next other g o
 stop_same end next other (compare l ∷ g) o = stop_same end next other g o
 stop_same end next other (fields ∷ g) o = stop_same end next other g o
-stop_same end next other (named n p l ∷ g) o = stop_same end next other g (o ++ entry.Load n p ∷ [])
+stop_same end next other (named n p l ∷ g) o = stop_same end next other g (o ++ node.Load n p ∷ [])
 stop_same end next other (bits u ∷ g) o = refl
 stop_same end next other (upto u a p ∷ g) o = refl
 stop_same end next other (shift ∷ g) o = refl
@@ -30,7 +30,7 @@ stop_same end next other (test l ∷ g) o = refl
 stop_same end next other (clauses l ∷ g) o = stop_same end next other g o
 stop_same end next other (stmt l ∷ g) o = stop_same end next other g o
 stop_same end next other (block l ∷ g) o = refl
-stop_same end next other (otherwise l ∷ g) o = stop_same end next other g (o ++ entry.Fi ∷ [])
+stop_same end next other (otherwise l ∷ g) o = stop_same end next other g (o ++ node.Fi ∷ [])
 stop_same end next other (arms l ∷ g) o = refl
 stop_same end next other (target n p l ∷ g) o = refl
 stop_same end next other (target_at n p q l ∷ g) o = refl
@@ -47,11 +47,11 @@ stop_same end next other (low c n p ∷ g) o = refl
 stop_same end next other (high c n p a q ∷ g) o = refl
 stop_same end next other (finish ∷ g) o = refl
 
-pub behind_token : (end : ℕ) (bs cs : List ℕ) (p : Piece) → left end bs ≡ p ∷ left end cs → (g : List Goal) (o : List Entry) → behind end bs g o ≡ feed (seen p) (behind end cs) g o
+pub behind_token : (end : ℕ) (bs cs : List ℕ) (p : Piece) → tokens_left end bs ≡ p ∷ tokens_left end cs → (g : List Goal) (o : List Node) → behind end bs g o ≡ feed (piece_tok p) (behind end cs) g o
 unfolding behind later
 behind_token end bs cs p e g o = ap (λ ps. later end ps g o) e
 
-pub behind_end : (end : ℕ) (bs : List ℕ) → left end bs ≡ [] → (g : List Goal) (o : List Entry) → behind end bs g o ≡ feed (ending end) (behind end bs) g o
+pub behind_end : (end : ℕ) (bs : List ℕ) → tokens_left end bs ≡ [] → (g : List Goal) (o : List Node) → behind end bs g o ≡ feed (ending end) (behind end bs) g o
 unfolding behind later
 behind_end end bs e g o = ap (λ ps. later end ps g o) e ∙ stop_same end (λ _ _. refuse 5 end) (behind end bs) g o
 

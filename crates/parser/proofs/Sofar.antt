@@ -3,10 +3,10 @@ use Rattle.std.proofs.Common.{◌≡◌, ℕ, List, [], ◌∷◌, ◌++◌, Ok,
 use Rattle.parser.specs.declared.fault.GrammarFault.{GrammarFault}
 use Rattle.parser.specs.declared.reader.Reader.{Reader}
 use Rattle.parser.specs.Machine.{Goal}
-use Rattle.parser.specs.Readers.{Kept, Fits, Done, runs}
+use Rattle.parser.specs.Readers.{Keeps, Fits, ReadsGoals, runs}
 
 abbrev pub Sofar : List Goal → Reader → Reader → Type 0
-Sofar gs r r' = Kept r r' × Fits 0 0 r r' × ((k : List Goal) → runs r (gs ++ k) ≡ runs r' (gs ++ k))
+Sofar gs r r' = Keeps r r' × Fits 0 0 r r' × ((k : List Goal) → runs r (gs ++ k) ≡ runs r' (gs ++ k))
 
 -- one turn more, and the end after some turns
 pub again : (gs : List Goal) (r₀ r r' : Reader) → Sofar gs r₀ r → Sofar gs r r' → Sofar gs r₀ r'
@@ -16,7 +16,7 @@ again gs r₀ r r' s d = (
   λ k. s.2 k ∙ d.2 k,
 )
 
-pub after : (gs : List Goal) (r₀ r r' : Reader) (a : Result (Unit {0}) GrammarFault) → Sofar gs r₀ r → Done 0 0 gs r r' a → Done 0 0 gs r₀ r' a
+pub after : (gs : List Goal) (r₀ r r' : Reader) (a : Result (Unit {0}) GrammarFault) → Sofar gs r₀ r → ReadsGoals 0 0 gs r r' a → ReadsGoals 0 0 gs r₀ r' a
 after gs r₀ r r' (Ok u) s d = (
   record { end = d.0.end ∙ s.0.end; loan = d.0.loan ∙ s.0.loan },
   record { room = omega arith; less = omega arith },
@@ -25,7 +25,7 @@ after gs r₀ r r' (Ok u) s d = (
 after gs r₀ r r' (Err e) s d = (record { end = d.0.end ∙ s.0.end; loan = d.0.loan ∙ s.0.loan }, λ k. s.2 k ∙ d.1 k)
 
 -- a goal, then others
-pub then : (g : Goal) (hs : List Goal) (r₀ r r' : Reader) (a : Result (Unit {0}) GrammarFault) → Done 0 0 (g ∷ []) r₀ r (Ok tt) → Done 0 0 hs r r' a → Done 0 0 (g ∷ hs) r₀ r' a
+pub then : (g : Goal) (hs : List Goal) (r₀ r r' : Reader) (a : Result (Unit {0}) GrammarFault) → ReadsGoals 0 0 (g ∷ []) r₀ r (Ok tt) → ReadsGoals 0 0 hs r r' a → ReadsGoals 0 0 (g ∷ hs) r₀ r' a
 then g hs r₀ r r' (Ok u) d e = (
   record { end = e.0.end ∙ d.0.end; loan = e.0.loan ∙ d.0.loan },
   record { room = omega arith; less = omega arith },
@@ -34,6 +34,6 @@ then g hs r₀ r r' (Ok u) d e = (
 then g hs r₀ r r' (Err x) d e = (record { end = e.0.end ∙ d.0.end; loan = e.0.loan ∙ d.0.loan }, λ k. d.2.reads (hs ++ k) ∙ e.1 k)
 
 -- less left of what was paid for
-pub spent : (c : ℕ) (gs : List Goal) (r r' : Reader) (a : Result (Unit {0}) GrammarFault) → Done 0 c gs r r' a → Done 0 0 gs r r' a
+pub spent : (c : ℕ) (gs : List Goal) (r r' : Reader) (a : Result (Unit {0}) GrammarFault) → ReadsGoals 0 c gs r r' a → ReadsGoals 0 0 gs r r' a
 spent c gs r r' (Ok u) d = (d.0, record { room = omega arith; less = omega arith }, d.2)
 spent c gs r r' (Err x) d = d

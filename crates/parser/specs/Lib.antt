@@ -1,5 +1,6 @@
 pub mod Faults
-pub mod Entries
+pub mod ValueTypes
+pub mod Nodes
 pub mod Marks
 pub mod Machine
 pub mod Readers

@@ -1,14 +1,15 @@
 // The classes of tokens that the grammar tells apart.
 ghost use Rattle.std.specs.Prelude.{◌≡◌, T, IfSome, option_map};
 ghost use Rattle.parser.specs.declared.fault.GrammarFault.TheVariants.{Unexpected};
-ghost use Rattle.parser.specs.Marks.{mark_of, live, Classed, Opened, word_at, is_symbol, is_keyword, decimal_of, kind_of, shift_of, shift_word, kind_word, truth_word, opening_word, operator_of, operator_at, operator_sign, operator_word, strength_of, literal_of, spelled_of, opening_of, is_stop};
+ghost use Rattle.parser.specs.Marks.{mark_of, live, IsClassed, OpensLevel, word_at, is_symbol, is_keyword, decimal_of, type_of, shift_of, shift_word, type_word, truth_word, opening_word, operator_of, operator_at, operator_sign, operator_word, strength_of, literal_of, spelled_of, opening_of, is_stop};
 ghost use Rattle.lexer.specs.Names.{name_of};
 
 use crate::fault::GrammarFault;
 use crate::lexeme::{Lexeme, Opening, PlacedName, Sort, Strength};
 use crate::node::Operator;
+use crate::value_type::ValueType;
 use arith::shift::Kind as ShiftKind;
-use lexer::token::{Keyword, Kind, Symbol};
+use lexer::token::{Keyword, Radix, Symbol};
 
 // The operator that a reserved word is, if it is one.
 fn operator_word(w: Keyword) -> Option<Operator>
@@ -43,12 +44,12 @@ fn operator_sign(s: Symbol) -> Option<Operator>
 }
 
 // The type that a reserved word names, if it names one.
-fn kind_word(w: Keyword) -> Option<Kind>
-    ensures { result ≡ kind_word w }
+fn type_word(w: Keyword) -> Option<ValueType>
+    ensures { result ≡ type_word w }
 {
     match w {
-        Keyword::Integer => Some(Kind::Integer),
-        Keyword::Logical => Some(Kind::Logical),
+        Keyword::Integer => Some(ValueType::Integer),
+        Keyword::Logical => Some(ValueType::Logical),
         _ => None,
     }
 }
@@ -111,9 +112,9 @@ impl Operator {
 impl Lexeme {
     // The refusal 5 at this token.
     pub(crate) fn unexpected(self) -> GrammarFault
-        ensures { result ≡ Unexpected self.place }
+        ensures { result ≡ Unexpected self.offset }
     {
-        GrammarFault::Unexpected(self.place)
+        GrammarFault::Unexpected(self.offset)
     }
 
     // Whether the token is this symbol.
@@ -146,7 +147,7 @@ impl Lexeme {
     }
 
     fn keyword(self) -> Option<Keyword>
-        ensures { Classed word_at self result }
+        ensures { IsClassed word_at self result }
     {
         match self.sort {
             Sort::Keyword(w) => Some(w),
@@ -155,7 +156,7 @@ impl Lexeme {
     }
 
     fn any_operator(self) -> Option<Operator>
-        ensures { Classed operator_of self result }
+        ensures { IsClassed operator_of self result }
     {
         match self.sort {
             Sort::Keyword(w) => operator_word(w),
@@ -166,58 +167,58 @@ impl Lexeme {
 
     // The operator that the token is, if it is one of this strength.
     pub(crate) fn operator(self, s: Strength) -> Option<Operator>
-        ensures { Classed (operator_at s) self result }
+        ensures { IsClassed (operator_at s) self result }
     {
         self.any_operator().filter(|o| s == o.strength())
     }
 
-    pub(crate) fn kind(self) -> Option<Kind>
-        ensures { Classed kind_of self result }
+    pub(crate) fn value_type(self) -> Option<ValueType>
+        ensures { IsClassed type_of self result }
     {
-        kind_word(self.keyword()?)
+        type_word(self.keyword()?)
     }
 
     pub(crate) fn shift(self) -> Option<ShiftKind>
-        ensures { Classed shift_of self result }
+        ensures { IsClassed shift_of self result }
     {
         shift_word(self.keyword()?)
     }
 
     pub(crate) fn opening(self) -> Option<Opening>
-        ensures { Classed opening_of self result }
+        ensures { IsClassed opening_of self result }
     {
         opening_word(self.keyword()?)
     }
 
     // The value of a decimal number, if the token is one.
     pub(crate) fn decimal(self) -> Option<u16>
-        ensures { Classed decimal_of self result }
+        ensures { IsClassed decimal_of self result }
     {
         match self.sort {
-            Sort::Number(Kind::Integer, v) => Some(v),
+            Sort::Number(Radix::Decimal, v) => Some(v),
             _ => None,
         }
     }
 
     // The word and the type of a number, TRUE or FALSE, if the token is one.
-    pub(crate) fn literal(self) -> Option<(u16, Kind)>
-        ensures { Classed literal_of self result }
+    pub(crate) fn literal(self) -> Option<(u16, ValueType)>
+        ensures { IsClassed literal_of self result }
     {
         match self.sort {
-            Sort::Number(kind, v) => Some((v, kind)),
-            Sort::Keyword(w) => Some((truth_word(w)?, Kind::Logical)),
+            Sort::Number(radix, v) => Some((v, ValueType::of(radix))),
+            Sort::Keyword(w) => Some((truth_word(w)?, ValueType::Logical)),
             _ => None,
         }
     }
 
     pub(crate) fn name(self) -> Option<PlacedName>
-        ensures name { Classed spelled_of self (option_map (λ n. name_of n.name) result) }
-        ensures place { IfSome result (λ n. n.place ≡ self.place) }
+        ensures name { IsClassed spelled_of self (option_map (λ n. name_of n.name) result) }
+        ensures offset { IfSome result (λ n. n.offset ≡ self.offset) }
     {
         match self.sort {
             Sort::Name(name) => Some(PlacedName {
                 name,
-                place: self.place,
+                offset: self.offset,
             }),
             _ => None,
         }
@@ -225,10 +226,10 @@ impl Lexeme {
 
     // How many of `levels` are left where the token opens one. Refuses with 6 at the token where none was left.
     pub(crate) fn opens(self, levels: u8) -> Result<u8, GrammarFault>
-        ensures { Opened self levels result }
+        ensures { OpensLevel self levels result }
     {
         if levels == 0 {
-            return Err(GrammarFault::TooDeep(self.place));
+            return Err(GrammarFault::TooDeep(self.offset));
         }
         Ok(levels - 1)
     }

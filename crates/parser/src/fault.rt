@@ -22,7 +22,7 @@ pub enum GrammarFault {
     TooDeep(usize),
 }
 
-// By hand: a derive gives no contract.
+// Written by hand, since a derive gives no contract.
 impl From<TextFault> for GrammarFault {
     ghost from_gives = { λ e r. r ≡ Text e };
 

@@ -2,7 +2,7 @@
 ghost use Rattle.std.specs.Prelude.{◌≡◌};
 
 use lexer::name::Name;
-use lexer::token::{Keyword, Kind, Symbol};
+use lexer::token::{Keyword, Radix, Symbol};
 
 /// What a token is to the grammar: a reserved word, a symbol, a name, a number, or the end of the text.
 #[derive(Clone, Copy)]
@@ -10,8 +10,8 @@ pub enum Sort {
     Keyword(Keyword),
     Symbol(Symbol),
     Name(Name),
-    /// Its type, its value.
-    Number(Kind, u16),
+    /// Its radix, its value.
+    Number(Radix, u16),
     /// The end of the text.
     Stop,
 }
@@ -21,14 +21,14 @@ pub enum Sort {
 pub struct Lexeme {
     pub sort: Sort,
     /// The offset of its first byte, in bytes. The end of the text has the length of the source.
-    pub place: usize,
+    pub offset: usize,
 }
 
-// A name, and its place.
+// A name, and its offset.
 #[derive(Clone, Copy)]
 pub(crate) struct PlacedName {
     pub name: Name,
-    pub place: usize,
+    pub offset: usize,
 }
 
 /// The strength of a binary operator, from the weakest to the strongest.
@@ -63,9 +63,9 @@ pub enum Opening {
 }
 
 impl Lexeme {
-    pub(crate) fn new(sort: Sort, place: usize) -> Lexeme
-        ensures { result ≡ record { sort = sort; place = place } }
+    pub(crate) fn new(sort: Sort, offset: usize) -> Lexeme
+        ensures { result ≡ record { sort = sort; offset = offset } }
     {
-        Lexeme { sort, place }
+        Lexeme { sort, offset }
     }
 }

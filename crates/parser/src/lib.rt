@@ -7,4 +7,5 @@ pub mod lexeme;
 pub mod node;
 pub mod reader;
 mod scan;
+pub mod value_type;
 pub mod workspace;

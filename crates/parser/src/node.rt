@@ -1,14 +1,13 @@
-// The syntax list: a source in written order, operands before their operator, with markers for control.
+// The syntax list: a source in written order, with operands before their operator, and with markers between the parts
+// of control statements.
+use crate::value_type::ValueType;
 use arith::shift::Kind as ShiftKind;
+use base::limits::MOST_NODES;
 use base::reserved::Reserved;
 use lexer::name::Name;
-use lexer::token::Kind;
-
-// Room for two entries for each byte of the longest source.
-pub(crate) const ROOM: usize = 65536;
 
 // The list as it is written.
-pub(crate) type Nodes = Reserved<Node, ROOM>;
+pub(crate) type Nodes = Reserved<Node, MOST_NODES>;
 
 /// A binary operator of an expression.
 #[derive(Clone, Copy, PartialEq, Eq, Debug)]
@@ -29,44 +28,44 @@ pub enum Operator {
     Lor,
 }
 
-/// One entry of the syntax list. A `usize` is a place in the source, in bytes, which a later refusal may name.
+/// One node of the syntax list. A `usize` is an offset in the source, in bytes, which a later refusal may name.
 #[derive(Clone, Copy)]
 pub enum Node {
-    /// A declared name that is no array: name, type, place.
-    Simple(Name, Kind, usize),
-    /// A declared array: name, type, low bound, high bound, place of the name, place of the low bound.
-    Array(Name, Kind, u16, u16, usize, usize),
+    /// A declared name that is no array: name, type, offset.
+    Simple(Name, ValueType, usize),
+    /// A declared array: name, type, low bound, high bound, offset of the name, offset of the low bound.
+    Array(Name, ValueType, u16, u16, usize, usize),
     /// A number, TRUE or FALSE: its word, its type.
-    Number(u16, Kind),
-    /// A name in an expression that has no subscript: name, its place.
+    Number(u16, ValueType),
+    /// A name in an expression that has no subscript: name, its offset.
     Load(Name, usize),
-    /// A name in an expression, after its subscript: name, its place, place of the parenthesis.
+    /// A name in an expression, after its subscript: name, its offset, offset of the parenthesis.
     Index(Name, usize, usize),
-    /// After both operands: the operator, its place.
+    /// After both operands: the operator, its offset.
     Binary(Operator, usize),
-    /// After the operand of a leading `-`: place of the `-`.
+    /// After the operand of a leading `-`: offset of the `-`.
     Negate(usize),
-    /// After the operand of LNOT: place of LNOT.
+    /// After the operand of LNOT: offset of LNOT.
     Lnot(usize),
     /// After the operand of a conversion: the type that it has then.
-    Convert(Kind),
-    /// After the operand of which a field is taken: first and second number, place of the first.
+    Convert(ValueType),
+    /// After the operand of which a field is taken: first and second number, offset of the first.
     Field(u16, u16, usize),
-    /// After the operand that is shifted: kind, count, place of the count.
+    /// After the operand that is shifted: kind, count, offset of the count.
     Shift(ShiftKind, u16, usize),
-    /// After the value that a name without a subscript is assigned: name, its place, place of `:=`.
+    /// After the value that a name without a subscript is assigned: name, its offset, offset of `:=`.
     Store(Name, usize, usize),
-    /// After the subscript left of `:=`, where no field is assigned: name, its place, place of the parenthesis.
+    /// After the subscript left of `:=`, where no field is assigned: name, its offset, offset of the parenthesis.
     Checked(Name, usize, usize),
-    /// After the value that a name with a subscript is assigned: name, its place, place of `:=`.
+    /// After the value that a name with a subscript is assigned: name, its offset, offset of `:=`.
     StoreAt(Name, usize, usize),
-    /// The word of which a field is assigned: name, its place.
+    /// The word of which a field is assigned: name, its offset.
     Fetch(Name, usize),
-    /// The word of which a field is assigned, after its subscript: name, its place, place of the parenthesis.
+    /// The word of which a field is assigned, after its subscript: name, its offset, offset of the parenthesis.
     FetchAt(Name, usize, usize),
-    /// After the value that a field is assigned: first and second number, place of the first.
+    /// After the value that a field is assigned: first and second number, offset of the first.
     Deposit(u16, u16, usize),
-    /// After each expression of a condition: place of its first token.
+    /// After each expression of a condition: offset of its first token.
     Test(usize),
     /// Between two clauses of a condition.
     Or,
@@ -88,19 +87,19 @@ pub enum Node {
     Until,
     /// At the end of a DO.
     Done,
-    /// After the first value of a FOR: name of its variable, place of the name, place of FOR.
+    /// After the first value of a FOR: name of its variable, offset of the name, offset of FOR.
     First(Name, usize, usize),
-    /// After the step of a FOR: place of FOR.
+    /// After the step of a FOR: offset of FOR.
     Step(usize),
     /// The step 1 of a FOR that has no STEP.
     One,
-    /// After the limit of a FOR: name of its variable, place of the name, place of FOR.
+    /// After the limit of a FOR: name of its variable, offset of the name, offset of FOR.
     For(Name, usize, usize),
     /// After the statement of a FOR: name of its variable.
     Next(Name),
     /// At the end of a FOR, whose step and limit are then dropped.
     Drop,
-    /// After the index of a CASE: place of CASE.
+    /// After the index of a CASE: offset of CASE.
     Case(usize),
     /// Before each statement of a CASE.
     Arm,

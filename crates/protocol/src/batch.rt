@@ -4,14 +4,14 @@ use crate::sessions::Desk;
 use anyhow::anyhow;
 use base::code::{Code, Figures};
 use base::instr::Instr;
+use base::limits::{MOST_IMAGE_BYTES, MOST_INSTRUCTIONS};
 use base::refusal::Refusal;
 use compiler::compiler::Compiler;
 use image::read::decode;
 use image::write::encode;
-use lexer::token::{Kind, Token};
+use lexer::token::{Radix, Token};
 use lexer::whole::Tokens;
 use parser::workspace::Workspace;
-use report::compiled::{MOST_BYTES, MOST_INSTRUCTIONS};
 use report::fields::{Problem, hex, instrs, miscount, number, put_words, word, words};
 use report::names::put_text;
 use report::source::load;
@@ -50,7 +50,7 @@ fn put_instrs(out: &mut String, code: &[Instr]) -> Result<(), Problem> {
 
 // A table of `n` entries: the first of a list that grows to the longest that was asked for. What they hold does not
 // matter, since no answer shows an entry that was not written.
-fn lent(table: &mut Vec<Instr>, n: usize) -> Result<&mut [Instr], Problem> {
+fn lend(table: &mut Vec<Instr>, n: usize) -> Result<&mut [Instr], Problem> {
     if table.len() < n {
         table.resize(n, Instr::default())?;
     }
@@ -63,23 +63,23 @@ fn put_code(out: &mut String, figures: Figures, table: &[Instr]) -> Result<(), P
     put_instrs(out, table.get(..figures.count as usize).unwrap_or(table))
 }
 
-// Appends a token as the protocol writes it: place, kind and text.
+// Appends a token as the protocol writes it: offset, kind and text.
 fn put_token(out: &mut String, t: &Token<'_>) -> Result<(), Problem> {
     match t {
-        Token::Word(w, place) => {
-            write!(out, " {place}:w:")?;
+        Token::Word(w, offset) => {
+            write!(out, " {offset}:w:")?;
             put_text(out, w)
         }
-        Token::Number(w, Kind::Integer, _, place) => {
-            write!(out, " {place}:n:")?;
+        Token::Number(w, Radix::Decimal, _, offset) => {
+            write!(out, " {offset}:n:")?;
             put_text(out, w)
         }
-        Token::Number(w, Kind::Logical, _, place) => {
-            write!(out, " {place}:o:")?;
+        Token::Number(w, Radix::Octal, _, offset) => {
+            write!(out, " {offset}:o:")?;
             put_text(out, w)
         }
-        Token::Symbol(s, place) => {
-            write!(out, " {place}:s:{s}")?;
+        Token::Symbol(s, offset) => {
+            write!(out, " {offset}:s:{s}")?;
             Ok(())
         }
     }
@@ -118,7 +118,7 @@ impl Bench {
         // a larger table gives the same answer
         let room = number(table)?.min(MOST_INSTRUCTIONS);
         hex(bytes, &mut self.bytes)?;
-        let table = lent(&mut self.table, room)?;
+        let table = lend(&mut self.table, room)?;
         match decode(self.bytes.as_slice(), table) {
             Ok(figures) => put_code(out, figures, table),
             Err(fault) => refused(out, fault),
@@ -130,7 +130,7 @@ impl Bench {
         let [room, cells, depth, code] = fields else {
             return Err(miscount(fields.len(), 4));
         };
-        let room = number(room)?.min(MOST_BYTES);
+        let room = number(room)?.min(MOST_IMAGE_BYTES);
         let cells = word(cells)?;
         let depth = word(depth)?;
         instrs(code, &mut self.code)?;
@@ -191,7 +191,7 @@ impl Bench {
         };
         let room = number(table)?.min(MOST_INSTRUCTIONS);
         hex(bytes, &mut self.bytes)?;
-        let table = lent(&mut self.table, room)?;
+        let table = lend(&mut self.table, room)?;
         match self.compiler.compile(self.bytes.as_slice(), table) {
             Ok(figures) => put_code(out, figures, table),
             Err(fault) => refused(out, fault),

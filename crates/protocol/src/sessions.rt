@@ -2,23 +2,21 @@
 use crate::batch::refused;
 use base::code::Code;
 use base::instr::Instr;
+use base::limits::MOST_WORDS;
 use base::refusal::Refusal;
 use base::store::Store;
 use base::store::bytes::Bytes;
 use base::store::joined::Joined;
-use base::store::lent::Words;
+use base::store::words::Words;
 use machine::call::{Answer, Call, Exchange};
 use machine::fault::{CallFault, SessionFault};
-use machine::lent::Lent;
+use machine::registers::Registers;
+use machine::resources::Resources;
 use machine::session::Session;
 use machine::single::single;
-use machine::vm::Vm;
 use report::fields::{Problem, hex, instrs, miscount, number, put_words, word, words};
 use std::alloc::Global;
 use std::fmt::Write;
-
-// No depth is larger, so a longer stack of zeros gives the same answers.
-const MOST_STACKED: usize = 65535;
 
 // The form of a request's store.
 #[derive(Clone, Copy, PartialEq, Eq, Debug)]
@@ -70,13 +68,13 @@ fn put_bytes(out: &mut String, list: &[u8]) -> Result<(), Problem> {
     Ok(())
 }
 
-fn put_registers(out: &mut String, vm: Vm) -> Result<(), Problem> {
+fn put_registers(out: &mut String, registers: Registers) -> Result<(), Problem> {
     write!(
         out,
         "s {} {} {} {} ",
-        vm.place, vm.height, vm.steps, vm.writes
+        registers.pc, registers.height, registers.steps, registers.writes
     )?;
-    match vm.ending {
+    match registers.ending {
         Some(ending) => write!(out, "{}", u8::from(ending))?,
         None => out.push('-')?,
     }
@@ -85,7 +83,7 @@ fn put_registers(out: &mut String, vm: Vm) -> Result<(), Problem> {
 
 fn put_answer(out: &mut String, answer: Result<Answer, CallFault>) -> Result<(), Problem> {
     match answer {
-        Ok(Answer::Registers(vm)) => put_registers(out, vm),
+        Ok(Answer::Registers(registers)) => put_registers(out, registers),
         Ok(Answer::Word(w)) => {
             write!(out, "w {w}")?;
             Ok(())
@@ -113,20 +111,20 @@ fn work<S: Store>(
     exchanges: &mut [Exchange],
 ) -> Result<(), SessionFault> {
     if let Task::Single(limit) = task {
-        let vm = single(code, stack, store, limit)?;
+        let registers = single(code, stack, store, limit)?;
         exchanges.fill(Exchange {
             call: Call::Resume(limit),
-            answer: Ok(Answer::Registers(vm)),
+            answer: Ok(Answer::Registers(registers)),
         });
         return Ok(());
     }
-    let mut lent = Lent {
+    let mut resources = Resources {
         code: code.instructions,
         stack,
         store,
     };
-    let mut session = Session::start(code.cells, code.depth, &lent)?;
-    session.play(&mut lent, exchanges);
+    let mut session = Session::start(code.cells, code.depth, &resources)?;
+    session.play(&mut resources, exchanges);
     Ok(())
 }
 
@@ -225,7 +223,8 @@ impl Desk {
         };
         let cells = word(cells)?;
         let depth = word(depth)?;
-        let length = number(length)?.min(MOST_STACKED);
+        // No depth is larger, so a longer stack of zeros gives the same answers.
+        let length = number(length)?.min(MOST_WORDS);
         self.read_store(store)?;
         exchanges(list, &mut self.exchanges)?;
         instrs(code, &mut self.code)?;

@@ -4,28 +4,23 @@ use crate::source::load;
 use anyhow::anyhow;
 use base::code::{Code, Figures};
 use base::instr::Instr;
+use base::limits::{MOST_IMAGE_BYTES, MOST_INSTRUCTIONS};
 use compiler::compiler::Compiler;
 use image::write::encode;
 use parser::node::Node;
 use sema::entry::NameEntry;
 use std::alloc::Global;
 
-/// No code has more instructions.
-pub const MOST_INSTRUCTIONS: usize = 16383;
-
-/// No image has more bytes.
-pub const MOST_BYTES: usize = 147456;
-
 /// A source that was compiled, with its code and the compiler that made it.
 #[derive(Drop)]
-pub struct Made {
+pub struct Compiled {
     source: Vec<u8>,
     compiler: Compiler,
     figures: Figures,
     table: Vec<Instr>,
 }
 
-impl Made {
+impl Compiled {
     /// Answers the bytes of the source.
     pub fn source(&self) -> &[u8] {
         self.source.as_slice()
@@ -52,7 +47,7 @@ impl Made {
 
     /// Answers the image of the code. Fails where there is too little memory.
     pub fn image(&self, heap: Global) -> anyhow::Result<Vec<u8>> {
-        let mut bytes = vec![in heap; 0u8; MOST_BYTES]?;
+        let mut bytes = vec![in heap; 0u8; MOST_IMAGE_BYTES]?;
         let n = encode(self.code(), bytes.as_mut_slice())?;
         bytes.truncate(n);
         Ok(bytes)
@@ -60,14 +55,14 @@ impl Made {
 }
 
 /// Compiles the source in a file. If the file cannot be read or the source is refused, prints why and fails.
-pub fn make(rt: &HostRuntime, path: &str) -> anyhow::Result<Made> {
+pub fn compile_file(rt: &HostRuntime, path: &str) -> anyhow::Result<Compiled> {
     let source = load(rt, path)?;
     let mut compiler = Compiler::new(rt.alloc())?;
     let mut table = vec![in rt.alloc(); Instr::default(); MOST_INSTRUCTIONS]?;
     match compiler.compile(source.as_slice(), table.as_mut_slice()) {
         Ok(figures) => {
             table.truncate(figures.count as usize);
-            Ok(Made {
+            Ok(Compiled {
                 source,
                 compiler,
                 figures,

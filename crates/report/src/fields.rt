@@ -16,7 +16,7 @@ pub enum Problem {
     NotRequest(&'static str),
 }
 
-// By hand, as those below: the case holds no error, so none can be derived.
+// Written by hand, like those below: the case holds no error, so none can be derived.
 impl From<AllocError> for Problem {
     fn from(_e: AllocError) -> Problem {
         Problem::Memory

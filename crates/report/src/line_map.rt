@@ -1,9 +1,9 @@
-// Which line of a source each instruction of its code comes from. The compiler does not answer that. Each entry of
+// Which line of a source each instruction of its code comes from. The compiler does not answer that. Each node of
 // the syntax list gives a known number of instructions, in the order of the list, so the instructions are counted
 // here.
-use crate::compiled::Made;
+use crate::compiled::Compiled;
 use crate::source::Lines;
-use crate::tokens::place_of;
+use crate::tokens::offset_of;
 use base::instr::Instr;
 use lexer::reserved::keyword;
 use lexer::token::{Keyword, Symbol, Token};
@@ -22,7 +22,7 @@ fn is_truth(word: &[u8]) -> bool {
     matches!(keyword(word), Some(Keyword::True | Keyword::False))
 }
 
-// The place of the third of four tokens, if it is a number of an expression; TRUE and FALSE count as numbers. The
+// The offset of the third of four tokens, if it is a number of an expression; TRUE and FALSE count as numbers. The
 // numbers of bounds and of fields have a colon on one side, and the number of a shift stands two tokens after the
 // word of its kind.
 fn constant(four: &[Token<'_>]) -> Option<usize> {
@@ -30,50 +30,50 @@ fn constant(four: &[Token<'_>]) -> Option<usize> {
         [_, Token::Symbol(Symbol::Colon, _), _, _] => None,
         [_, _, _, Token::Symbol(Symbol::Colon, _)] => None,
         [Token::Word(word, _), _, Token::Number(_, _, _, _), _] if is_shift(word) => None,
-        [_, _, Token::Number(_, _, _, place), _] => Some(*place),
-        [_, _, Token::Word(word, place), _] if is_truth(word) => Some(*place),
+        [_, _, Token::Number(_, _, _, offset), _] => Some(*offset),
+        [_, _, Token::Word(word, offset), _] if is_truth(word) => Some(*offset),
         _ => None,
     }
 }
 
-// The places of the numbers in expressions, in written order. The entries of these numbers come in the same order
-// and have no place.
+// The offsets of the numbers in expressions, in written order. The nodes of these numbers come in the same order
+// and have no offset.
 fn constants(heap: Global, tokens: &[Token<'_>]) -> anyhow::Result<Vec<usize>> {
-    let mut places = Vec::new(heap);
+    let mut offsets = Vec::new(heap);
     for four in tokens.windows(4) {
-        if let Some(place) = constant(four) {
-            places.push(place)?;
+        if let Some(offset) = constant(four) {
+            offsets.push(offset)?;
         }
     }
-    Ok(places)
+    Ok(offsets)
 }
 
-// The place of an entry that has one.
+// The offset of a node that has one.
 fn standing(node: Node) -> Option<usize> {
     match node {
-        Node::Load(_, place)
-        | Node::Index(_, place, _)
-        | Node::Binary(_, place)
-        | Node::Negate(place)
-        | Node::Lnot(place)
-        | Node::Field(_, _, place)
-        | Node::Shift(_, _, place)
-        | Node::Store(_, place, _)
-        | Node::Checked(_, place, _)
-        | Node::StoreAt(_, place, _)
-        | Node::Fetch(_, place)
-        | Node::FetchAt(_, place, _)
-        | Node::Deposit(_, _, place)
-        | Node::Test(place)
-        | Node::First(_, place, _)
-        | Node::Step(place)
-        | Node::For(_, place, _)
-        | Node::Case(place) => Some(place),
+        Node::Load(_, offset)
+        | Node::Index(_, offset, _)
+        | Node::Binary(_, offset)
+        | Node::Negate(offset)
+        | Node::Lnot(offset)
+        | Node::Field(_, _, offset)
+        | Node::Shift(_, _, offset)
+        | Node::Store(_, offset, _)
+        | Node::Checked(_, offset, _)
+        | Node::StoreAt(_, offset, _)
+        | Node::Fetch(_, offset)
+        | Node::FetchAt(_, offset, _)
+        | Node::Deposit(_, _, offset)
+        | Node::Test(offset)
+        | Node::First(_, offset, _)
+        | Node::Step(offset)
+        | Node::For(_, offset, _)
+        | Node::Case(offset) => Some(offset),
         _ => None,
     }
 }
 
-// How many instructions an entry gives. The first of them, if there is one, is `first`: a CASE counts its table of
+// How many instructions a node gives. The first of them, if there is one, is `first`: a CASE counts its table of
 // branches by it.
 fn given(node: Node, first: Option<&Instr>) -> usize {
     match node {
@@ -96,27 +96,31 @@ fn given(node: Node, first: Option<&Instr>) -> usize {
     }
 }
 
-/// Answers the line of each instruction, counted from 1. An entry without a place, unless it is a number, has the
-/// line of the last place before it, and HALT has the line of the full stop. Fails only where there is too little
+/// Answers the line of each instruction, counted from 1. A node without an offset, unless it is a number, has the
+/// line of the last offset before it, and HALT has the line of the full stop. Fails only where there is too little
 /// memory.
-pub fn line_map(heap: Global, made: &Made, lines: &Lines<'_>) -> anyhow::Result<Vec<usize>> {
+pub fn line_map(
+    heap: Global,
+    compiled: &Compiled,
+    lines: &Lines<'_>,
+) -> anyhow::Result<Vec<usize>> {
     let mut tokens = Tokens::new(heap)?;
-    tokens.cut(made.source())?;
-    let places = constants(heap, tokens.as_slice())?;
-    let code = made.code().instructions;
-    let mut constants = places.iter();
-    let mut place = 0;
+    tokens.cut(compiled.source())?;
+    let offsets = constants(heap, tokens.as_slice())?;
+    let code = compiled.code().instructions;
+    let mut constants = offsets.iter();
+    let mut offset = 0;
     let mut list = Vec::new(heap);
-    for node in made.nodes() {
+    for node in compiled.nodes() {
         let own = match node {
             Node::Number(_, _) => constants.next().copied(),
             _ => standing(*node),
         };
-        place = own.unwrap_or(place);
+        offset = own.unwrap_or(offset);
         let count = given(*node, code.get(list.len()));
-        list.resize(list.len().saturating_add(count), lines.at(place))?;
+        list.resize(list.len().saturating_add(count), lines.at(offset))?;
     }
-    let stop = tokens.as_slice().last().map_or(place, place_of);
+    let stop = tokens.as_slice().last().map_or(offset, offset_of);
     list.push(lines.at(stop))?;
     Ok(list)
 }

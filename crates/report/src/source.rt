@@ -1,13 +1,13 @@
-// The bytes of a source file, and the lines and columns of places in them.
+// The bytes of a source file, and the lines and columns of offsets in them.
 use anyhow::anyhow;
 use std::alloc::Global;
 use std::fs;
 
-/// A place in a source, and the line on which it stands.
+/// An offset in a source, and the line on which it stands.
 #[derive(Clone, Copy)]
 pub struct Spot {
-    /// The index of a byte; the length of the source is a place too.
-    pub place: usize,
+    /// The index of a byte; the length of the source is an offset too.
+    pub offset: usize,
     /// Counted from 1.
     pub line: usize,
     // where that line begins
@@ -15,16 +15,16 @@ pub struct Spot {
 }
 
 impl Spot {
-    /// The place of the first byte of a source.
+    /// The offset of the first byte of a source.
     pub const TOP: Spot = Spot {
-        place: 0,
+        offset: 0,
         line: 1,
         start: 0,
     };
 
-    /// Answers the column of the place in its line, counted in bytes from 1.
+    /// Answers the column of the offset in its line, counted in bytes from 1.
     pub fn column(self) -> usize {
-        self.place.saturating_sub(self.start).saturating_add(1)
+        self.offset.saturating_sub(self.start).saturating_add(1)
     }
 
     /// Answers the source from the beginning of the line on.
@@ -32,21 +32,25 @@ impl Spot {
         source.get(self.start..).unwrap_or(source)
     }
 
-    /// Answers the spot of a place that is not before this one. Only the bytes between the two are looked at.
-    pub fn onward(self, source: &[u8], place: usize) -> Spot {
+    /// Answers the spot of an offset that is not before this one. Only the bytes between the two are looked at.
+    pub fn onward(self, source: &[u8], offset: usize) -> Spot {
         let mut line = self.line;
         let mut start = self.start;
-        for (i, b) in source.iter().enumerate().take(place).skip(self.place) {
+        for (i, b) in source.iter().enumerate().take(offset).skip(self.offset) {
             if *b == b'\n' {
                 line = line.saturating_add(1);
                 start = i.saturating_add(1);
             }
         }
-        Spot { place, line, start }
+        Spot {
+            offset,
+            line,
+            start,
+        }
     }
 }
 
-/// Where each line of a source begins. It finds the line of any place, in whatever order places come.
+/// Where each line of a source begins. It finds the line of any offset, in whatever order offsets come.
 #[derive(Drop)]
 pub struct Lines<'a> {
     source: &'a [u8],
@@ -74,11 +78,11 @@ impl Lines<'_> {
             .partition_point(|start| *start < self.source.len())
     }
 
-    /// Answers the line, counted from 1, on which a place stands.
-    pub fn at(&self, place: usize) -> usize {
+    /// Answers the line, counted from 1, on which an offset stands.
+    pub fn at(&self, offset: usize) -> usize {
         self.starts
             .as_slice()
-            .partition_point(|start| *start <= place)
+            .partition_point(|start| *start <= offset)
     }
 
     /// Answers the source from the beginning of a line on; lines are counted from 1.

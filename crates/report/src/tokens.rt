@@ -2,8 +2,9 @@
 use lexer::token::Token;
 
 /// Answers the index of the first byte of a token.
-pub fn place_of(t: &Token<'_>) -> usize {
+pub fn offset_of(t: &Token<'_>) -> usize {
     match t {
-        Token::Word(_, place) | Token::Number(_, _, _, place) | Token::Symbol(_, place) => *place,
+        Token::Word(_, offset) | Token::Number(_, _, _, offset) | Token::Symbol(_, offset) =>
+            *offset,
     }
 }

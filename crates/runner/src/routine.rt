@@ -4,15 +4,16 @@ use arith::integer::value;
 use arith::stop::Stop;
 use base::code::{Code, Figures};
 use base::instr::Instr;
+use base::limits::MOST_INSTRUCTIONS;
 use base::op::Op;
 use base::refusal::Refusal;
 use image::fault::ImageFault;
 use image::read::decode;
 use lexer::search::Named;
-use lexer::token::Kind;
 use machine::ending::Ending;
-use machine::vm::Vm;
-use report::compiled::{MOST_INSTRUCTIONS, Made, make};
+use machine::registers::Registers;
+use parser::value_type::ValueType;
+use report::compiled::{Compiled, compile_file};
 use report::line_map::line_map;
 use report::mark;
 use report::names::{owner, put_text};
@@ -25,7 +26,7 @@ use std::fmt::Write;
 #[derive(Drop)]
 pub struct Routine {
     // the source; without one, the figures and the table are those of an image
-    made: Option<Made>,
+    compiled: Option<Compiled>,
     figures: Figures,
     table: Vec<Instr>,
 }
@@ -34,8 +35,8 @@ pub struct Routine {
 fn put_cell(out: &mut String, entry: &NameEntry, cell: u16) -> anyhow::Result<()> {
     put_text(out, entry.name())?;
     if entry.sort == Sort::Array {
-        let place = (cell as u32).saturating_sub(entry.cell);
-        write!(out, "({place})")?;
+        let element = (cell as u32).saturating_sub(entry.cell);
+        write!(out, "({element})")?;
     }
     Ok(())
 }
@@ -56,8 +57,8 @@ fn subscripted(code: &[Instr]) -> Option<u16> {
 impl Routine {
     /// Answers the code, with its cells and its depth.
     pub fn code(&self) -> Code<'_> {
-        match &self.made {
-            Some(made) => made.code(),
+        match &self.compiled {
+            Some(compiled) => compiled.code(),
             None => Code {
                 cells: self.figures.cells,
                 depth: self.figures.depth,
@@ -68,15 +69,15 @@ impl Routine {
 
     /// Answers the bytes of the source, or none for an image.
     pub fn source(&self) -> Option<&[u8]> {
-        match &self.made {
-            Some(made) => Some(made.source()),
+        match &self.compiled {
+            Some(compiled) => Some(compiled.source()),
             None => None,
         }
     }
 
     fn names(&self) -> &[NameEntry] {
-        match &self.made {
-            Some(made) => made.names(),
+        match &self.compiled {
+            Some(compiled) => compiled.names(),
             None => &[],
         }
     }
@@ -95,27 +96,32 @@ impl Routine {
     /// Answers the value of a word in a cell: with a sign where the name is an INTEGER, else from 0 to 65,535.
     pub fn value(&self, cell: u16, word: u16) -> i32 {
         match owner(self.names(), cell) {
-            Some(entry) if entry.kind == Kind::Integer => value(word),
+            Some(entry) if entry.value_type == ValueType::Integer => value(word),
             _ => word as i32,
         }
     }
 
     // Prints the line of the instruction at which the run stands, and for a bad subscript the array.
-    fn tell_line(&self, rt: &HostRuntime, made: &Made, vm: Vm) -> anyhow::Result<()> {
+    fn tell_line(
+        &self,
+        rt: &HostRuntime,
+        compiled: &Compiled,
+        registers: Registers,
+    ) -> anyhow::Result<()> {
         let heap = rt.alloc();
-        let place = vm.place as usize;
-        let lines = Lines::of(heap, made.source())?;
-        let line_of = line_map(heap, made, &lines)?;
-        let Some(line) = line_of.as_slice().get(place) else {
+        let pc = registers.pc as usize;
+        let lines = Lines::of(heap, compiled.source())?;
+        let line_of = line_map(heap, compiled, &lines)?;
+        let Some(line) = line_of.as_slice().get(pc) else {
             return Ok(());
         };
         let text = mark::shown(heap, lines.from(*line))?;
         println!(rt; "{line:>5}  {text}")?;
-        if vm.ending != Some(Ending::Stopped(Stop::BadIndex)) {
+        if registers.ending != Some(Ending::Stopped(Stop::BadIndex)) {
             return Ok(());
         }
-        let rest = made.code().instructions.get(place..).unwrap_or(&[]);
-        if let Some(entry) = subscripted(rest).and_then(|cell| owner(made.names(), cell)) {
+        let rest = compiled.code().instructions.get(pc..).unwrap_or(&[]);
+        if let Some(entry) = subscripted(rest).and_then(|cell| owner(compiled.names(), cell)) {
             let name = std::str::from_utf8(entry.name())?;
             println!(rt; "the array is {name}(0:{})", entry.cells.saturating_sub(1))?;
         }
@@ -124,25 +130,22 @@ impl Routine {
 
     /// Prints the registers after a run: the ending, or that the limit of steps came first, the line of the source,
     /// and the numbers of steps, writes and stacked words.
-    pub fn tell_end(&self, rt: &HostRuntime, vm: Vm) -> anyhow::Result<()> {
-        let place = vm.place;
-        match vm.ending {
+    pub fn tell_end(&self, rt: &HostRuntime, registers: Registers) -> anyhow::Result<()> {
+        let pc = registers.pc;
+        match registers.ending {
             Some(ending) => {
-                println!(rt;
-                    "ending {} at instruction {place}: {ending}",
-                    u8::from(ending)
-                )?;
+                println!(rt; "ending {} at instruction {pc}: {ending}", u8::from(ending))?;
             }
             None => println!(rt;
-                "no ending: the limit of steps came first, before instruction {place}"
+                "no ending: the limit of steps came first, before instruction {pc}"
             )?,
         }
-        if let Some(made) = &self.made {
-            self.tell_line(rt, made, vm)?;
+        if let Some(compiled) = &self.compiled {
+            self.tell_line(rt, compiled, registers)?;
         }
         println!(rt;
             "steps {}, writes {}, words stacked {}",
-            vm.steps, vm.writes, vm.height
+            registers.steps, registers.writes, registers.height
         )?;
         Ok(())
     }
@@ -163,7 +166,7 @@ pub fn open(rt: &HostRuntime, path: &str) -> anyhow::Result<Routine> {
         Ok(figures) => {
             table.truncate(figures.count as usize);
             Ok(Routine {
-                made: None,
+                compiled: None,
                 figures,
                 table,
             })
@@ -176,7 +179,7 @@ pub fn open(rt: &HostRuntime, path: &str) -> anyhow::Result<Routine> {
                 count: 0,
             };
             Ok(Routine {
-                made: Some(make(rt, path)?),
+                compiled: Some(compile_file(rt, path)?),
                 figures,
                 table,
             })

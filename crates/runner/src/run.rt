@@ -1,12 +1,12 @@
 // `spl run`: runs a source or an image to its ending or to a limit of steps.
 use crate::routine::{Routine, open};
 use crate::settings::Settings;
-use base::store::lent::Words;
+use base::store::words::Words;
 use driver::trial::Trial;
 use machine::call::{Answer, Call, Exchange};
-use machine::lent::Lent;
+use machine::registers::Registers;
+use machine::resources::Resources;
 use machine::session::Session;
-use machine::vm::Vm;
 use std::alloc::Global;
 
 // The limit of steps if no option gives one.
@@ -15,7 +15,7 @@ const LIMIT: u64 = 10000000;
 // What the calls answered: the registers, and the words of the cells.
 #[derive(Drop)]
 struct Outcome {
-    vm: Vm,
+    registers: Registers,
     words: Vec<u16>,
 }
 
@@ -45,21 +45,21 @@ fn play(
         trial.play(source, stack.as_mut_slice(), store, exchanges)?;
         return Ok(());
     }
-    let mut lent = Lent {
+    let mut resources = Resources {
         code: code.instructions,
         stack: stack.as_mut_slice(),
         store,
     };
-    let mut session = Session::start(code.cells, code.depth, &lent)?;
-    session.play(&mut lent, exchanges);
+    let mut session = Session::start(code.cells, code.depth, &resources)?;
+    session.play(&mut resources, exchanges);
     Ok(())
 }
 
 // The registers of the last answer that has some, and the words of the answers in order.
 fn gathered(heap: Global, exchanges: &[Exchange]) -> anyhow::Result<Outcome> {
     let mut outcome = Outcome {
-        vm: Vm {
-            place: 0,
+        registers: Registers {
+            pc: 0,
             height: 0,
             steps: 0,
             writes: 0,
@@ -69,7 +69,7 @@ fn gathered(heap: Global, exchanges: &[Exchange]) -> anyhow::Result<Outcome> {
     };
     for exchange in exchanges {
         match exchange.answer? {
-            Answer::Registers(vm) => outcome.vm = vm,
+            Answer::Registers(registers) => outcome.registers = registers,
             Answer::Word(word) => outcome.words.push(word)?,
         }
     }
@@ -125,6 +125,6 @@ pub fn run(rt: &HostRuntime, path: &str, options: &[String]) -> anyhow::Result<(
     let routine = open(rt, path)?;
     let before = settings.store(heap, routine.code().cells)?;
     let outcome = make(heap, &routine, before.as_slice(), settings.limit)?;
-    routine.tell_end(rt, outcome.vm)?;
+    routine.tell_end(rt, outcome.registers)?;
     table(rt, &routine, before.as_slice(), outcome.words.as_slice())
 }

@@ -4,10 +4,10 @@ use crate::settings::Settings;
 use base::instr::Instr;
 use base::op::Op;
 use base::store::Store;
-use base::store::lent::Words;
-use machine::lent::Lent;
+use base::store::words::Words;
+use machine::registers::Registers;
+use machine::resources::Resources;
 use machine::session::Session;
-use machine::vm::Vm;
 use report::fields::put_words;
 use report::instruction::shown;
 use std::alloc::Global;
@@ -29,11 +29,16 @@ fn target(i: Instr, stacked: &[u16]) -> Option<u16> {
 fn put_step(
     out: &mut String,
     heap: Global,
-    vm: Vm,
+    registers: Registers,
     i: Option<Instr>,
     stacked: &[u16],
 ) -> anyhow::Result<()> {
-    write!(out, "{:>6} {:>6}  ", vm.steps.saturating_add(1), vm.place)?;
+    write!(
+        out,
+        "{:>6} {:>6}  ",
+        registers.steps.saturating_add(1),
+        registers.pc
+    )?;
     match i {
         Some(i) => {
             let text = shown(heap, i)?;
@@ -64,22 +69,22 @@ fn step<S: Store>(
     rt: &HostRuntime,
     routine: &Routine,
     session: &mut Session,
-    lent: &mut Lent<'_, '_, '_, S>,
-) -> anyhow::Result<Vm> {
+    resources: &mut Resources<'_, '_, '_, S>,
+) -> anyhow::Result<Registers> {
     let heap = rt.alloc();
     let before = session.report();
-    let i = lent.code.get(before.place as usize).copied();
-    let stacked = lent.stack.get(..before.height as usize).unwrap_or(&[]);
+    let i = resources.code.get(before.pc as usize).copied();
+    let stacked = resources.stack.get(..before.height as usize).unwrap_or(&[]);
     let mut text = String::new(heap);
     put_step(&mut text, heap, before, i, stacked)?;
     let target = i.and_then(|i| target(i, stacked));
-    let vm = session.resume(lent, 1)?;
-    if let (Some(cell), true) = (target, vm.writes > before.writes) {
-        let word = session.look(lent.store, cell)?;
+    let registers = session.resume(resources, 1)?;
+    if let (Some(cell), true) = (target, registers.writes > before.writes) {
+        let word = session.look(resources.store, cell)?;
         put_write(&mut text, heap, routine, cell, word)?;
     }
     println!(rt; "{text}")?;
-    Ok(vm)
+    Ok(registers)
 }
 
 // Makes at most `limit` steps over a store, and answers the registers after the last.
@@ -89,19 +94,19 @@ fn steps<S: Store>(
     stack: &mut [u16],
     store: &mut S,
     limit: u64,
-) -> anyhow::Result<Vm> {
+) -> anyhow::Result<Registers> {
     let code = routine.code();
-    let mut lent = Lent {
+    let mut resources = Resources {
         code: code.instructions,
         stack,
         store,
     };
-    let mut session = Session::start(code.cells, code.depth, &lent)?;
+    let mut session = Session::start(code.cells, code.depth, &resources)?;
     for _ in 0..limit {
         if session.report().ending.is_some() {
             break;
         }
-        step(rt, routine, &mut session, &mut lent)?;
+        step(rt, routine, &mut session, &mut resources)?;
     }
     Ok(session.report())
 }
@@ -120,12 +125,12 @@ pub fn trace(rt: &HostRuntime, path: &str, options: &[String]) -> anyhow::Result
         cells: memory.as_mut_slice(),
     };
     println!(rt; "  step  index  instruction      stack before, top last; write")?;
-    let vm = steps(
+    let registers = steps(
         rt,
         &routine,
         stack.as_mut_slice(),
         &mut store,
         settings.limit,
     )?;
-    routine.tell_end(rt, vm)
+    routine.tell_end(rt, registers)
 }

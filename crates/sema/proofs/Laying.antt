@@ -2,14 +2,14 @@
 use Rattle.std.proofs.Common.{◌≡◌, ℕ, zero, suc, ◌+◌, ◌<◌, ◌≤◌, Bool, true, false, ltb, List, [], ◌∷◌, ◌++◌, length, get_or, Some, None, Option, sym, refl, ap, ◌∙◌, ⊎_elim, arith, length-append}
 use Rattle.std.proofs.lemmas.Bool.{cases_Bool, ltb-true}
 use Rattle.std.specs.Str.{bytes_eq}
-use Rattle.lexer.specs.declared.token.Kind.{Kind}
-use Rattle.parser.specs.Entries.{Entry}
-use Rattle.parser.specs.Entries as entry
+use Rattle.parser.specs.declared.value_type.ValueType.{ValueType}
+use Rattle.parser.specs.Nodes.{Node}
+use Rattle.parser.specs.Nodes as node
 use Rattle.sema.specs.declared.entry.Sort.{Sort}
-use Rattle.sema.specs.Tables.{Row, Table, look, nothing, is_known, extended, declare, empty}
-use Rattle.sema.specs.Names.{Declaring, decl_of, entered_by, entered, table_from}
-use Rattle.sema.specs.Layout.{Sized, LaidOut}
-use Rattle.sema.proofs.Lookups.{same, other}
+use Rattle.sema.specs.Tables.{Row, Table, look, nothing, is_known, with_row, declare, empty}
+use Rattle.sema.specs.Names.{DeclaredName, decl_of, entered_by, table_after, table_from}
+use Rattle.sema.specs.Layout.{HasItsSize, IsLaidOut}
+use Rattle.lexer.proofs.Lookups.{same, other}
 
 -- one after the other from s to n
 abbrev pub Laid : ℕ → List Row → ℕ → Type 0
@@ -28,7 +28,7 @@ pub record Good (t : Table) : Type 0 where
   pub few : length t.rows ≤ 64
   pub laid : Laid 0 t.rows t.cells
   pub once : Once t.rows
-  pub sized : Each (λ r. Sized r.sort r.cells) t.rows
+  pub sized : Each (λ r. HasItsSize r.sort r.cells) t.rows
 
 pub some_none : {A B : Type 0} (x : A) → Some x ≡ None → B
 some_none x e = let z : ◌≡◌ {A = ℕ} 0 1 = cc in absurd (omega arith)
@@ -60,14 +60,14 @@ once_push (x ∷ rs) r h e =
     let p = not_first x r rs e in
     (look_push rs r x.name h.0 (turned x.name r.name p.0), once_push rs r h.1 p.1)
 
-pub good_extended : (t : Table) (n : List ℕ) (k : Kind) (s : Sort) (c : ℕ) → Good t → look t.rows n ≡ None → length t.rows < 64 → Sized s c → Good (extended t n k s c)
+pub good_extended : (t : Table) (n : List ℕ) (k : ValueType) (s : Sort) (c : ℕ) → Good t → look t.rows n ≡ None → length t.rows < 64 → HasItsSize s c → Good (with_row t n k s c)
 good_extended t n k s c g e l z =
-    let r : Row = record { name = n; kind = k; sort = s; cell = t.cells; cells = c } in
+    let r : Row = record { name = n; value_type = k; sort = s; cell = t.cells; cells = c } in
     record {
       few = simp length-append (omega arith);
       laid = laid_push 0 t.rows t.cells r g.laid refl;
       once = once_push t.rows r g.once e;
-      sized = each_push (λ r. Sized r.sort r.cells) t.rows r g.sized z;
+      sized = each_push (λ r. HasItsSize r.sort r.cells) t.rows r g.sized z;
     }
 
 pub not_known : (o : Option Row) → is_known o ≡ false → o ≡ None
@@ -75,7 +75,7 @@ not_known None e = refl
 not_known (Some r) e = absurd (let z : ◌≡◌ {A = ℕ} 0 1 = cc in omega arith)
 
 -- what holds of a table still holds after a declaration: it stays, or is one name longer
-pub declared_keeps : (P : Table → Type 0) (t : Table) (n : List ℕ) (k : Kind) (s : Sort) (c : ℕ) → P t → (look t.rows n ≡ None → length t.rows < 64 → P (extended t n k s c)) → P (declare t n k s c)
+pub declared_keeps : (P : Table → Type 0) (t : Table) (n : List ℕ) (k : ValueType) (s : Sort) (c : ℕ) → P t → (look t.rows n ≡ None → length t.rows < 64 → P (with_row t n k s c)) → P (declare t n k s c)
 unfolding declare
 declared_keeps P t n k s c p f =
     ⊎_elim (λ e. rw e p)
@@ -84,59 +84,59 @@ declared_keeps P t n k s c p f =
     (⊎_elim (λ l. rw l (f (not_known (look t.rows n) e) (ltb-true (length t.rows) 64 l))) (λ l. rw l p) (cases_Bool (ltb (length t.rows) 64))))
     (cases_Bool (is_known (look t.rows n)))
 
-abbrev DeclSized : Option Declaring → Type 0
+abbrev DeclSized : Option DeclaredName → Type 0
 DeclSized None = Unit {0}
-DeclSized (Some d) = Sized d.sort d.cells
+DeclSized (Some d) = HasItsSize d.sort d.cells
 
-decl_sized : (e : Entry) → DeclSized (decl_of e)
-decl_sized (entry.Simple n k p) = refl
-decl_sized (entry.Array n k l h p q) = omega arith
-decl_sized (entry.Number v k) = tt
-decl_sized (entry.Load n p) = tt
-decl_sized (entry.Index n p q) = tt
-decl_sized (entry.Binary o p) = tt
-decl_sized (entry.Negate p) = tt
-decl_sized (entry.Lnot p) = tt
-decl_sized (entry.Convert k) = tt
-decl_sized (entry.Field a b p) = tt
-decl_sized (entry.Shift h c p) = tt
-decl_sized (entry.Store n p q) = tt
-decl_sized (entry.Checked n p q) = tt
-decl_sized (entry.StoreAt n p q) = tt
-decl_sized (entry.Fetch n p) = tt
-decl_sized (entry.FetchAt n p q) = tt
-decl_sized (entry.Deposit a b p) = tt
-decl_sized (entry.Test p) = tt
-decl_sized entry.Or = tt
-decl_sized entry.If = tt
-decl_sized entry.Then = tt
-decl_sized entry.Else = tt
-decl_sized entry.Fi = tt
-decl_sized entry.While = tt
-decl_sized entry.Loop = tt
-decl_sized entry.Do = tt
-decl_sized entry.Until = tt
-decl_sized entry.Done = tt
-decl_sized (entry.First n p f) = tt
-decl_sized (entry.Step f) = tt
-decl_sized entry.One = tt
-decl_sized (entry.For n p f) = tt
-decl_sized (entry.Next n) = tt
-decl_sized entry.Drop = tt
-decl_sized (entry.Case p) = tt
-decl_sized entry.Arm = tt
-decl_sized entry.Out = tt
-decl_sized entry.Esac = tt
+decl_sized : (e : Node) → DeclSized (decl_of e)
+decl_sized (node.Simple n k p) = refl
+decl_sized (node.Array n k l h p q) = omega arith
+decl_sized (node.Number v k) = tt
+decl_sized (node.Load n p) = tt
+decl_sized (node.Index n p q) = tt
+decl_sized (node.Binary o p) = tt
+decl_sized (node.Negate p) = tt
+decl_sized (node.Lnot p) = tt
+decl_sized (node.Convert k) = tt
+decl_sized (node.Field a b p) = tt
+decl_sized (node.Shift h c p) = tt
+decl_sized (node.Store n p q) = tt
+decl_sized (node.Checked n p q) = tt
+decl_sized (node.StoreAt n p q) = tt
+decl_sized (node.Fetch n p) = tt
+decl_sized (node.FetchAt n p q) = tt
+decl_sized (node.Deposit a b p) = tt
+decl_sized (node.Test p) = tt
+decl_sized node.Or = tt
+decl_sized node.If = tt
+decl_sized node.Then = tt
+decl_sized node.Else = tt
+decl_sized node.Fi = tt
+decl_sized node.While = tt
+decl_sized node.Loop = tt
+decl_sized node.Do = tt
+decl_sized node.Until = tt
+decl_sized node.Done = tt
+decl_sized (node.First n p f) = tt
+decl_sized (node.Step f) = tt
+decl_sized node.One = tt
+decl_sized (node.For n p f) = tt
+decl_sized (node.Next n) = tt
+decl_sized node.Drop = tt
+decl_sized (node.Case p) = tt
+decl_sized node.Arm = tt
+decl_sized node.Out = tt
+decl_sized node.Esac = tt
 
-good_by : (t : Table) (o : Option Declaring) → DeclSized o → Good t → Good (entered_by t o)
+good_by : (t : Table) (o : Option DeclaredName) → DeclSized o → Good t → Good (entered_by t o)
 good_by t None z g = g
-good_by t (Some d) z g = declared_keeps Good t d.name d.kind d.sort d.cells g (λ e l. good_extended t d.name d.kind d.sort d.cells g e l z)
+good_by t (Some d) z g = declared_keeps Good t d.name d.value_type d.sort d.cells g (λ e l. good_extended t d.name d.value_type d.sort d.cells g e l z)
 
-pub good_from : (es : List Entry) (t : Table) → Good t → Good (table_from t es)
+pub good_from : (es : List Node) (t : Table) → Good t → Good (table_from t es)
 good_from [] t g = g
-good_from (e ∷ es) t g = good_from es (entered t e) (good_by t (decl_of e) (decl_sized e) g)
+good_from (e ∷ es) t g = good_from es (table_after t e) (good_by t (decl_of e) (decl_sized e) g)
 
-pub good : (es : List Entry) → Good (table_from empty es)
+pub good : (es : List Node) → Good (table_from empty es)
 good es = good_from es empty record { few = omega arith; laid = refl; once = tt; sized = tt }
 
 -- the same by places
@@ -175,12 +175,12 @@ module _ where
   each_at P (r ∷ rs) zero h l = h.0
   each_at P (r ∷ rs) (suc i) h l = each_at P rs i h.1 (omega arith)
 
-pub laid_out : (t : Table) → Good t → LaidOut t
+pub laid_out : (t : Table) → Good t → IsLaidOut t
 laid_out t g =
     record {
       few = g.few;
       distinct = λ i j k l e. once_at t.rows i j g.once k l e;
       apart = λ i j k l. laid_apart 0 t.rows t.cells i j g.laid k l;
       below = λ i l. (laid_at 0 t.rows t.cells i g.laid l).1;
-      sized = λ i l. each_at (λ r. Sized r.sort r.cells) t.rows i g.sized l;
+      sized = λ i l. each_at (λ r. HasItsSize r.sort r.cells) t.rows i g.sized l;
     }

@@ -5,17 +5,18 @@ use Rattle.std.proofs.lemmas.Bool.{cases_Bool, cases_lt, eqb-true, eqb-false, or
 use Rattle.std.proofs.lemmas.Slice.Eq.{bytes_eq-Decides}
 use Rattle.std.specs.Str.{bytes_eq}
 use Rattle.base.specs.declared.refusal.Refusal.{Refusal}
-use Rattle.lexer.specs.declared.token.Kind.{Kind}
+use Rattle.base.specs.Refusals.{refusal_at}
+use Rattle.parser.specs.declared.value_type.ValueType.{ValueType}
 use Rattle.ast.specs.Trees.{Expr, number, load, index, binary, negate, lnot, convert, field, shift, Clause, test, and, Cond, only, or, Step, absent, by, Stmt, assign, assign_at, deposit, deposit_at, when, either, choose, while, repeat, count, Body, end, then, Arms, last, arm, Decl, simple, array, Program}
 use Rattle.sema.specs.declared.entry.Sort.{Sort}
 use Rattle.sema.specs.declared.entry.Sort.TheVariants as sort
-use Rattle.sema.specs.Faults.{at, also}
-use Rattle.sema.specs.Tables.{Row, Table, look, empty, is_known, extended, declare}
-use Rattle.sema.specs.Names.{Use, is_sort, used_as, used, entering, declared, names_d, program_table, program_names, names_e, names_l, names_c, names_p, names_s, names_b, names_a}
-use Rattle.sema.specs.Rules.{Declared, called, Unused}
+use Rattle.sema.specs.Faults.{also}
+use Rattle.sema.specs.Tables.{Row, Table, look, empty, is_known, with_row, declare}
+use Rattle.sema.specs.Names.{Use, is_sort, used_as, use_refusal, declaration_refusal, table_of_decls, names_d, program_table, program_names, names_e, names_l, names_c, names_p, names_s, names_b, names_a}
+use Rattle.sema.specs.Rules.{IsDeclared, declared_name, IsUnused}
 use Rattle.sema.specs.Parts.{SomeE, SomeL, SomeC, SomeP, SomeS, SomeB, SomeA, SomeDecl}
-use Rattle.sema.specs.Standing.{place_of, sort_of, declares, different, Entered, Known, Again, Past, use_e, use_s, IfUsed, SomeUse, Unknown, Missorted, UsedUnknown, UsedWrongly, NameFault, DeclaredAgain, DeclaredPast}
-use Rattle.sema.proofs.Lookups.{same, other}
+use Rattle.sema.specs.Standing.{offset_of_decl, sort_of, declares, distinct_names, IsEntered, IsKnown, Again, Past, use_e, use_s, IfUsed, SomeUse, IsUnknownUse, IsOtherUse, UsesUnknown, UsesWrongly, NameFault, DeclaresAgain, DeclaresPast}
+use Rattle.lexer.proofs.Lookups.{same, other}
 use Rattle.sema.proofs.Laying.{some_none, look_push, not_known}
 use Rattle.sema.proofs.Entering.{known, full, room}
 use Rattle.sema.proofs.Shares.{both, swapped, skipped, nothing, recast, ended, told, told_unless, from_b, from_decl, split_there, split_back}
@@ -24,62 +25,62 @@ pub true_false : {A : Type 0} (b : Bool) → b ≡ true → b ≡ false → A
 true_false b e f = absurd (let g : ◌≡◌ {A = Bool} true false = sym e ∙ f in let z : ◌≡◌ {A = ℕ} 0 1 = cc in omega (arith, z))
 
 -- which names these declare
-pub declares_false : (b : List Decl) (n : List ℕ) → declares b n ≡ false → Unused n b
+pub declares_false : (b : List Decl) (n : List ℕ) → declares b n ≡ false → IsUnused n b
 declares_false [] n e = tt
 declares_false (d ∷ b) n e =
-    let x = or_parts (bytes_eq (called d) n) (declares b n) e in
-    (λ q. true_false (bytes_eq (called d) n) (same (called d) n q) x.0, declares_false b n x.1)
+    let x = or_parts (bytes_eq (declared_name d) n) (declares b n) e in
+    (λ q. true_false (bytes_eq (declared_name d) n) (same (declared_name d) n q) x.0, declares_false b n x.1)
 
-pub unused_false : (b : List Decl) (n : List ℕ) → Unused n b → declares b n ≡ false
+pub unused_false : (b : List Decl) (n : List ℕ) → IsUnused n b → declares b n ≡ false
 unused_false [] n u = refl
-unused_false (d ∷ b) n u = or_from (bytes_eq (called d) n) (declares b n) (other (called d) n u.0) (unused_false b n u.1)
+unused_false (d ∷ b) n u = or_from (bytes_eq (declared_name d) n) (declares b n) (other (declared_name d) n u.0) (unused_false b n u.1)
 
-entered_declares : (b : List Decl) (n : List ℕ) (s : Sort) → Entered b n s → declares b n ≡ true
+entered_declares : (b : List Decl) (n : List ℕ) (s : Sort) → IsEntered b n s → declares b n ≡ true
 entered_declares [] n s x = absurd x
-entered_declares (d ∷ b) n s (inl x) = or_right (bytes_eq (called d) n) (declares b n) (entered_declares b n s x)
-entered_declares (d ∷ b) n s (inr x) = or_left (bytes_eq (called d) n) (declares b n) (same (called d) n x.0)
+entered_declares (d ∷ b) n s (inl x) = or_right (bytes_eq (declared_name d) n) (declares b n) (entered_declares b n s x)
+entered_declares (d ∷ b) n s (inr x) = or_left (bytes_eq (declared_name d) n) (declares b n) (same (declared_name d) n x.0)
 
-grows : (b : List Decl) (d : Decl) → different b ≤ different (d ∷ b)
-grows b d = ⊎_elim (λ e. rw e (omega arith)) (λ e. rw e (omega arith)) (cases_Bool (declares b (called d)))
+grows : (b : List Decl) (d : Decl) → distinct_names b ≤ distinct_names (d ∷ b)
+grows b d = ⊎_elim (λ e. rw e (omega arith)) (λ e. rw e (omega arith)) (cases_Bool (declares b (declared_name d)))
 
-one_more : (b : List Decl) (d : Decl) → declares b (called d) ≡ false → different (d ∷ b) ≡ different b + 1
+one_more : (b : List Decl) (d : Decl) → declares b (declared_name d) ≡ false → distinct_names (d ∷ b) ≡ distinct_names b + 1
 one_more b d e = rw e refl
 
-no_more : (b : List Decl) (d : Decl) → declares b (called d) ≡ true → different (d ∷ b) ≡ different b
+no_more : (b : List Decl) (d : Decl) → declares b (declared_name d) ≡ true → distinct_names (d ∷ b) ≡ distinct_names b
 no_more b d e = rw e refl
 
-pub declares_known : (b : List Decl) (n : List ℕ) → different b ≤ 64 → declares b n ≡ true → Known b n
+pub declares_known : (b : List Decl) (n : List ℕ) → distinct_names b ≤ 64 → declares b n ≡ true → IsKnown b n
 declares_known [] n l e = true_false false e refl
 declares_known (d ∷ b) n l e =
     ⊎_elim
     (λ h. let x = declares_known b n (omega (arith, l, grows b d)) h in (x.0, inl x.1))
     (λ h.
-    let q : bytes_eq (called d) n ≡ true = ⊎_elim (λ y. y) (λ y. true_false (declares b n) y h) (or_cases (bytes_eq (called d) n) (declares b n) e) in
-    let i : called d ≡ n = (bytes_eq-Decides (called d) n).0 q in
+    let q : bytes_eq (declared_name d) n ≡ true = ⊎_elim (λ y. y) (λ y. true_false (declares b n) y h) (or_cases (bytes_eq (declared_name d) n) (declares b n) e) in
+    let i : declared_name d ≡ n = (bytes_eq-Decides (declared_name d) n).0 q in
     let m = one_more b d (ap (declares b) i ∙ h) in
     (sort_of d, inr (i, refl, declares_false b n h, omega (arith, l, m))))
     (cases_Bool (declares b n))
 
-pub known_declares : (b : List Decl) (n : List ℕ) → Known b n → declares b n ≡ true
+pub known_declares : (b : List Decl) (n : List ℕ) → IsKnown b n → declares b n ≡ true
 known_declares b n k = entered_declares b n k.0 k.1
 
 -- the table has the names that are known, and no more rows than there are names
 record Told (t : Table) (b : List Decl) : Type 0 where
-  names : (n : List ℕ) (s : Sort) → Entered b n s ↔ Declared t n s
-  long : length t.rows ≡ min (different b) 64
+  names : (n : List ℕ) (s : Sort) → IsEntered b n s ↔ IsDeclared t n s
+  long : length t.rows ≡ min (distinct_names b) 64
 
 module _ (t : Table) (b : List Decl) (g : Told t b) (n : List ℕ) where
-  looked : (r : Row) → look t.rows n ≡ Some r → Entered b n r.sort
+  looked : (r : Row) → look t.rows n ≡ Some r → IsEntered b n r.sort
   looked r e = (g.names n r.sort).1 record { row = r; found = e; sort = refl }
 
-  not_there : look t.rows n ≡ None → Known b n → ⊥
+  not_there : look t.rows n ≡ None → IsKnown b n → ⊥
   not_there e k = let d = (g.names n k.0).0 k.1 in some_none d.row (sym d.found ∙ e)
 
-  found_known : (o : Option Row) → look t.rows n ≡ o → is_known o ≡ true → Known b n
+  found_known : (o : Option Row) → look t.rows n ≡ o → is_known o ≡ true → IsKnown b n
   found_known None e k = true_false false k refl
   found_known (Some r) e k = (r.sort, looked r e)
 
-  not_known_there : is_known (look t.rows n) ≡ false → Known b n → ⊥
+  not_known_there : is_known (look t.rows n) ≡ false → IsKnown b n → ⊥
   not_known_there e = not_there (not_known (look t.rows n) e)
 
 -- a row more is found after the others
@@ -96,54 +97,54 @@ some_same x y e = cc
 
 -- a declaration whose name is not entered
 module _ (t : Table) (b : List Decl) (d : Decl) (g : Told t b) where
-  left_out : ((n : List ℕ) (s : Sort) → (called d ≡ n) × (sort_of d ≡ s) × Unused n b × (different b < 64) → ⊥) → min (different b) 64 ≡ min (different (d ∷ b)) 64 → Told t (d ∷ b)
+  left_out : ((n : List ℕ) (s : Sort) → (declared_name d ≡ n) × (sort_of d ≡ s) × IsUnused n b × (distinct_names b < 64) → ⊥) → min (distinct_names b) 64 ≡ min (distinct_names (d ∷ b)) 64 → Told t (d ∷ b)
   left_out never m =
       record {
         names = λ n s. (λ x. ⊎_elim (λ y. (g.names n s).0 y) (λ y. absurd (never n s y)) x, λ x. inl ((g.names n s).1 x));
         long = g.long ∙ m;
       }
 
-  known_stays : Known b (called d) → Told t (d ∷ b)
+  known_stays : IsKnown b (declared_name d) → Told t (d ∷ b)
   known_stays k =
-      let e = known_declares b (called d) k in
-      left_out (λ n s x. true_false (declares b (called d)) e (ap (declares b) x.0 ∙ unused_false b n x.2)) (ap (λ m. min m 64) (sym (no_more b d e)))
+      let e = known_declares b (declared_name d) k in
+      left_out (λ n s x. true_false (declares b (declared_name d)) e (ap (declares b) x.0 ∙ unused_false b n x.2)) (ap (λ m. min m 64) (sym (no_more b d e)))
 
-  full_stays : 64 ≤ different b → Told t (d ∷ b)
+  full_stays : 64 ≤ distinct_names b → Told t (d ∷ b)
   full_stays l = left_out (λ n s x. omega (arith, l, x.3)) (let m = grows b d in omega (arith, l, m))
 
-  module _ (k : Kind) (c : ℕ) (new : Known b (called d) → ⊥) (l : different b < 64) where
+  module _ (k : ValueType) (c : ℕ) (new : IsKnown b (declared_name d) → ⊥) (l : distinct_names b < 64) where
     abbrev r : Row
-    r = record { name = called d; kind = k; sort = sort_of d; cell = t.cells; cells = c }
+    r = record { name = declared_name d; value_type = k; sort = sort_of d; cell = t.cells; cells = c }
 
-    not_declared : declares b (called d) ≡ false
-    not_declared = ⊎_elim (λ e. absurd (new (declares_known b (called d) (omega (arith, l)) e))) (λ e. e) (cases_Bool (declares b (called d)))
+    not_declared : declares b (declared_name d) ≡ false
+    not_declared = ⊎_elim (λ e. absurd (new (declares_known b (declared_name d) (omega (arith, l)) e))) (λ e. e) (cases_Bool (declares b (declared_name d)))
 
-    not_found : (o : Option Row) → look t.rows (called d) ≡ o → o ≡ None
+    not_found : (o : Option Row) → look t.rows (declared_name d) ≡ o → o ≡ None
     not_found None e = refl
-    not_found (Some x) e = absurd (new (x.sort, looked t b g (called d) x e))
+    not_found (Some x) e = absurd (new (x.sort, looked t b g (declared_name d) x e))
 
-    row_there : (n : List ℕ) (s : Sort) → called d ≡ n → sort_of d ≡ s → Declared (extended t (called d) k (sort_of d) c) n s
+    row_there : (n : List ℕ) (s : Sort) → declared_name d ≡ n → sort_of d ≡ s → IsDeclared (with_row t (declared_name d) k (sort_of d) c) n s
     row_there n s e f =
         record {
           row = r;
-          found = push_last t.rows r n (ap (look t.rows) (sym e) ∙ not_found (look t.rows (called d)) refl) (same (called d) n e);
+          found = push_last t.rows r n (ap (look t.rows) (sym e) ∙ not_found (look t.rows (declared_name d)) refl) (same (declared_name d) n e);
           sort = f;
         }
 
-    row_back : (n : List ℕ) (s : Sort) (o : Option Row) → look t.rows n ≡ o → Declared (extended t (called d) k (sort_of d) c) n s → Entered (d ∷ b) n s
+    row_back : (n : List ℕ) (s : Sort) (o : Option Row) → look t.rows n ≡ o → IsDeclared (with_row t (declared_name d) k (sort_of d) c) n s → IsEntered (d ∷ b) n s
     row_back n s (Some x) e h =
         let f : x ≡ h.row = some_same x h.row (sym (push_found t.rows r x n e) ∙ h.found) in
-        inl (subst (Entered b n) (ap (λ y. y.sort) f ∙ h.sort) (looked t b g n x e))
+        inl (subst (IsEntered b n) (ap (λ y. y.sort) f ∙ h.sort) (looked t b g n x e))
     row_back n s None e h =
         ⊎_elim
         (λ q.
         let f : r ≡ h.row = some_same r h.row (sym (push_last t.rows r n e q) ∙ h.found) in
-        let i : called d ≡ n = (bytes_eq-Decides (called d) n).0 q in
-        inr (i, ap (λ y. y.sort) f ∙ h.sort, subst (λ m. Unused m b) i (declares_false b (called d) not_declared), l))
+        let i : declared_name d ≡ n = (bytes_eq-Decides (declared_name d) n).0 q in
+        inr (i, ap (λ y. y.sort) f ∙ h.sort, subst (λ m. IsUnused m b) i (declares_false b (declared_name d) not_declared), l))
         (λ q. some_none h.row (sym h.found ∙ look_push t.rows r n e q))
-        (cases_Bool (bytes_eq (called d) n))
+        (cases_Bool (bytes_eq (declared_name d) n))
 
-    entered_now : Told (extended t (called d) k (sort_of d) c) (d ∷ b)
+    entered_now : Told (with_row t (declared_name d) k (sort_of d) c) (d ∷ b)
     entered_now =
         record {
           names = λ n s. (
@@ -160,38 +161,38 @@ module _ (r : Refusal) where
   abbrev Fault : List Decl → Decl → Type 0
   Fault b d = Again r b d ⊎ Past r b d
 
-  module _ (t : Table) (b : List Decl) (d : Decl) (g : Told t b) (k : Kind) (c : ℕ) where
+  module _ (t : Table) (b : List Decl) (d : Decl) (g : Told t b) (k : ValueType) (c : ℕ) where
     abbrev Judged : Type 0
-    Judged = (Fault b d ↔ (entering t (called d) (place_of d) ≡ Some r)) × Told (declare t (called d) k (sort_of d) c) (d ∷ b)
+    Judged = (Fault b d ↔ (declaration_refusal t (declared_name d) (offset_of_decl d) ≡ Some r)) × Told (declare t (declared_name d) k (sort_of d) c) (d ∷ b)
 
-    of_known : is_known (look t.rows (called d)) ≡ true → Judged
+    of_known : is_known (look t.rows (declared_name d)) ≡ true → Judged
     of_known e =
-        let h = known t (called d) k (sort_of d) c (place_of d) e in
-        let n = found_known t b g (called d) (look t.rows (called d)) refl e in (
+        let h = known t (declared_name d) k (sort_of d) c (offset_of_decl d) e in
+        let n = found_known t b g (declared_name d) (look t.rows (declared_name d)) refl e in (
           (
             λ x. ⊎_elim (λ y. sym h.0 ∙ ap Some (sym y.0)) (λ y. absurd (y.1 n)) x,
-            λ x. inl (sym (some_same (at 8 (place_of d)) r (h.0 ∙ x)), n),
+            λ x. inl (sym (some_same (refusal_at 8 (offset_of_decl d)) r (h.0 ∙ x)), n),
           ),
           subst (λ u. Told u (d ∷ b)) h.1 (known_stays t b d g n),
         )
 
-    of_full : is_known (look t.rows (called d)) ≡ false → 64 ≤ length t.rows → Judged
+    of_full : is_known (look t.rows (declared_name d)) ≡ false → 64 ≤ length t.rows → Judged
     of_full e l =
-        let h = full t (called d) k (sort_of d) c (place_of d) e l in
-        let n = not_known_there t b g (called d) e in
-        let m : 64 ≤ different b = (let a = g.long in omega (arith, a, l)) in (
+        let h = full t (declared_name d) k (sort_of d) c (offset_of_decl d) e l in
+        let n = not_known_there t b g (declared_name d) e in
+        let m : 64 ≤ distinct_names b = (let a = g.long in omega (arith, a, l)) in (
           (
             λ x. ⊎_elim (λ y. absurd (n y.1)) (λ y. sym h.0 ∙ ap Some (sym y.0)) x,
-            λ x. inr (sym (some_same (at 9 (place_of d)) r (h.0 ∙ x)), n, m),
+            λ x. inr (sym (some_same (refusal_at 9 (offset_of_decl d)) r (h.0 ∙ x)), n, m),
           ),
           subst (λ u. Told u (d ∷ b)) h.1 (full_stays t b d g m),
         )
 
-    of_room : is_known (look t.rows (called d)) ≡ false → length t.rows < 64 → Judged
+    of_room : is_known (look t.rows (declared_name d)) ≡ false → length t.rows < 64 → Judged
     of_room e l =
-        let h = room t (called d) k (sort_of d) c (place_of d) e l in
-        let n = not_known_there t b g (called d) e in
-        let m : different b < 64 = (let a = g.long in omega (arith, a, l)) in (
+        let h = room t (declared_name d) k (sort_of d) c (offset_of_decl d) e l in
+        let n = not_known_there t b g (declared_name d) e in
+        let m : distinct_names b < 64 = (let a = g.long in omega (arith, a, l)) in (
           (
             λ x. ⊎_elim (λ y. absurd (n y.1)) (λ y. absurd (omega (arith, m, y.2))) x,
             λ x. some_none r (sym x ∙ sym h.0),
@@ -201,16 +202,16 @@ module _ (r : Refusal) where
 
     of_decl : Judged
     of_decl =
-        ⊎_elim of_known (λ e. ⊎_elim (of_room e) (of_full e) (cases_lt (length t.rows) 64)) (cases_Bool (is_known (look t.rows (called d))))
+        ⊎_elim of_known (λ e. ⊎_elim (of_room e) (of_full e) (cases_lt (length t.rows) 64)) (cases_Bool (is_known (look t.rows (declared_name d))))
 
   stands_d : (ds : List Decl) (t : Table) (b : List Decl) (fs : List Refusal) → Told t b → Contains (names_d t ds fs) r ↔ (SomeDecl Fault b ds ⊎ Contains fs r)
   stands_d [] t b fs g = nothing
   stands_d (simple n k p ∷ ds) t b fs g =
       let x = of_decl t b (simple n k p) g k 1 in
-      both (told (entering t n p) (names_d (declare t n k sort.Simple 1) ds fs) r x.0) (stands_d ds (declare t n k sort.Simple 1) (simple n k p ∷ b) fs x.1)
+      both (told (declaration_refusal t n p) (names_d (declare t n k sort.Simple 1) ds fs) r x.0) (stands_d ds (declare t n k sort.Simple 1) (simple n k p ∷ b) fs x.1)
   stands_d (array n k l h p q ∷ ds) t b fs g =
       let x = of_decl t b (array n k l h p q) g k (h + 1) in
-      both (told (entering t n p) (names_d (declare t n k sort.Array (h + 1)) ds fs) r x.0) (stands_d ds (declare t n k sort.Array (h + 1)) (array n k l h p q ∷ b) fs x.1)
+      both (told (declaration_refusal t n p) (names_d (declare t n k sort.Array (h + 1)) ds fs) r x.0) (stands_d ds (declare t n k sort.Array (h + 1)) (array n k l h p q ∷ b) fs x.1)
 
 -- a name is judged before and after what stands right of it
 twice_there : {I U V : Type 0} → I ⊎ U ⊎ V ⊎ U → U ⊎ I ⊎ V
@@ -249,7 +250,7 @@ count_back (inr (inr (inr (inl l)))) = inr (inr (inr (inl l)))
 count_back (inr (inr (inr (inr b)))) = inr (inr (inr (inr (inr b))))
 
 -- what is judged at each use
-module _ (t : Table) (r : Refusal) (P : Use → Type 0) (h : (n : List ℕ) (s : Sort) (p : ℕ) → P record { name = n; sort = s; place = p } ↔ (used t n s p ≡ Some r)) where
+module _ (t : Table) (r : Refusal) (P : Use → Type 0) (h : (n : List ℕ) (s : Sort) (p : ℕ) → P record { name = n; sort = s; offset = p } ↔ (use_refusal t n s p ≡ Some r)) where
   abbrev E : Expr → Type 0
   E e = IfUsed P (use_e e)
 
@@ -259,8 +260,8 @@ module _ (t : Table) (r : Refusal) (P : Use → Type 0) (h : (n : List ℕ) (s :
   abbrev S : Stmt → Type 0
   S s = IfUsed P (use_s s)
 
-  met : (n : List ℕ) (s : Sort) (p : ℕ) (fs : List Refusal) → Contains (also (used t n s p) fs) r ↔ (P record { name = n; sort = s; place = p } ⊎ Contains fs r)
-  met n s p fs = told (used t n s p) fs r (h n s p)
+  met : (n : List ℕ) (s : Sort) (p : ℕ) (fs : List Refusal) → Contains (also (use_refusal t n s p) fs) r ↔ (P record { name = n; sort = s; offset = p } ⊎ Contains fs r)
+  met n s p fs = told (use_refusal t n s p) fs r (h n s p)
 
   stands_e : (e : Expr) (fs : List Refusal) → Contains (names_e t e fs) r ↔ (SomeE E T S e ⊎ Contains fs r)
   stands_e (number v k) fs = nothing
@@ -309,12 +310,12 @@ module _ (t : Table) (r : Refusal) (P : Use → Type 0) (h : (n : List ℕ) (s :
     stands_a (arm b a) fs = both (stands_b b _) (stands_a a fs)
 
 -- the table of a program, and those of its names that are known
-told_all : (ds : List Decl) (t : Table) (b : List Decl) → Told t b → Told (declared t ds) (reverse_aux ds b)
+told_all : (ds : List Decl) (t : Table) (b : List Decl) → Told t b → Told (table_of_decls t ds) (reverse_aux ds b)
 told_all [] t b g = g
 told_all (simple n k p ∷ ds) t b g =
-    told_all ds (declare t n k sort.Simple 1) (simple n k p ∷ b) (of_decl (at 0 0) t b (simple n k p) g k 1).1
+    told_all ds (declare t n k sort.Simple 1) (simple n k p ∷ b) (of_decl (refusal_at 0 0) t b (simple n k p) g k 1).1
 told_all (array n k l h p q ∷ ds) t b g =
-    told_all ds (declare t n k sort.Array (h + 1)) (array n k l h p q ∷ b) (of_decl (at 0 0) t b (array n k l h p q) g k (h + 1)).1
+    told_all ds (declare t n k sort.Array (h + 1)) (array n k l h p q ∷ b) (of_decl (refusal_at 0 0) t b (array n k l h p q) g k (h + 1)).1
 
 told_empty : Told empty []
 told_empty = record { names = λ n s. (λ x. absurd x, λ h. some_none h.row (sym h.found)); long = omega arith }
@@ -323,7 +324,7 @@ told_program : (x : Program) → Told (program_table x) (reverse x.decls)
 unfolding program_table
 told_program x = told_all x.decls empty [] told_empty
 
-number_of : (n m p : ℕ) (r : Refusal) → at n p ≡ r → r.number ≡ m → n ≡ m
+number_of : (n m p : ℕ) (r : Refusal) → refusal_at n p ≡ r → r.number ≡ m → n ≡ m
 number_of n m p r e f = ap (λ y. y.number) e ∙ f
 
 other_sort : (a b : Sort) → (is_sort a b ≡ false) ↔ (b ≢ a)
@@ -340,36 +341,36 @@ module _ (x : Program) (r : Refusal) where
   g = told_program x
 
   module _ (seven : r.number ≡ 7) (n : List ℕ) (s : Sort) (p : ℕ) where
-    unknown_there : (o : Option Row) → look t.rows n ≡ o → Unknown x r record { name = n; sort = s; place = p } → used_as o s p ≡ Some r
+    unknown_there : (o : Option Row) → look t.rows n ≡ o → IsUnknownUse x r record { name = n; sort = s; offset = p } → used_as o s p ≡ Some r
     unknown_there None e h = ap Some (sym h.0)
     unknown_there (Some y) e h = absurd (h.1 (y.sort, looked t (reverse x.decls) g n y e))
 
-    unknown_back : (o : Option Row) → look t.rows n ≡ o → used_as o s p ≡ Some r → Unknown x r record { name = n; sort = s; place = p }
-    unknown_back None e h = (sym (some_same (at 7 p) r h), not_there t (reverse x.decls) g n e)
+    unknown_back : (o : Option Row) → look t.rows n ≡ o → used_as o s p ≡ Some r → IsUnknownUse x r record { name = n; sort = s; offset = p }
+    unknown_back None e h = (sym (some_same (refusal_at 7 p) r h), not_there t (reverse x.decls) g n e)
     unknown_back (Some y) e h =
         let v = (told_unless (is_sort s y.sort) 10 p r).1 h in
         absurd (let z : 10 ≡ 7 = number_of 10 7 p r (sym v.0) seven in omega (arith, z))
 
-    unknown : Unknown x r record { name = n; sort = s; place = p } ↔ (used t n s p ≡ Some r)
-    unfolding used
+    unknown : IsUnknownUse x r record { name = n; sort = s; offset = p } ↔ (use_refusal t n s p ≡ Some r)
+    unfolding use_refusal
     unknown = (unknown_there (look t.rows n) refl, unknown_back (look t.rows n) refl)
 
   module _ (other_number : r.number ≡ 7 → ⊥) (n : List ℕ) (s : Sort) (p : ℕ) where
-    sorted_there : (o : Option Row) → look t.rows n ≡ o → Missorted x r record { name = n; sort = s; place = p } → used_as o s p ≡ Some r
+    sorted_there : (o : Option Row) → look t.rows n ≡ o → IsOtherUse x r record { name = n; sort = s; offset = p } → used_as o s p ≡ Some r
     sorted_there None e h = absurd (not_there t (reverse x.decls) g n e (h.1.0, h.1.1))
     sorted_there (Some y) e h =
         let d = (g.names n h.1.0).0 h.1.1 in
         let f : y ≡ d.row = some_same y d.row (sym e ∙ d.found) in
         (told_unless (is_sort s y.sort) 10 p r).0 (h.0, (other_sort s y.sort).1 (λ i. h.1.2 (sym d.sort ∙ ap (λ z. z.sort) (sym f) ∙ i)))
 
-    sorted_back : (o : Option Row) → look t.rows n ≡ o → used_as o s p ≡ Some r → Missorted x r record { name = n; sort = s; place = p }
-    sorted_back None e h = absurd (other_number (ap (λ y. y.number) (sym (some_same (at 7 p) r h))))
+    sorted_back : (o : Option Row) → look t.rows n ≡ o → used_as o s p ≡ Some r → IsOtherUse x r record { name = n; sort = s; offset = p }
+    sorted_back None e h = absurd (other_number (ap (λ y. y.number) (sym (some_same (refusal_at 7 p) r h))))
     sorted_back (Some y) e h =
         let v = (told_unless (is_sort s y.sort) 10 p r).1 h in
         (v.0, (y.sort, looked t (reverse x.decls) g n y e, (other_sort s y.sort).0 v.1))
 
-    sorted : Missorted x r record { name = n; sort = s; place = p } ↔ (used t n s p ≡ Some r)
-    unfolding used
+    sorted : IsOtherUse x r record { name = n; sort = s; offset = p } ↔ (use_refusal t n s p ≡ Some r)
+    unfolding use_refusal
     sorted = (sorted_there (look t.rows n) refl, sorted_back (look t.rows n) refl)
 
   -- a fault of uses has its number
@@ -381,31 +382,31 @@ module _ (x : Program) (r : Refusal) where
   some_use P f h =
       from_b (λ e. IfUsed P (use_e e)) (λ p e. ⊥) (λ s. IfUsed P (use_s s)) (λ e. if_used P f (use_e e)) (λ p e y. absurd y) (λ s. if_used P f (use_s s)) x.body h
 
-  pub unknown_number : UsedUnknown x r → r.number ≡ 7
-  unknown_number h = some_use (Unknown x r) (λ u y. ap (λ z. z.number) y.0) h
+  pub unknown_number : UsesUnknown x r → r.number ≡ 7
+  unknown_number h = some_use (IsUnknownUse x r) (λ u y. ap (λ z. z.number) y.0) h
 
-  pub wrongly_number : UsedWrongly x r → r.number ≡ 10
-  wrongly_number h = some_use (Missorted x r) (λ u y. ap (λ z. z.number) y.0) h
+  pub wrongly_number : UsesWrongly x r → r.number ≡ 10
+  wrongly_number h = some_use (IsOtherUse x r) (λ u y. ap (λ z. z.number) y.0) h
 
-  pub again_number : DeclaredAgain x r → r.number ≡ 8
+  pub again_number : DeclaresAgain x r → r.number ≡ 8
   again_number h = from_decl (Again r) (λ b d y. ap (λ z. z.number) y.0) x.decls [] h
 
-  pub past_number : DeclaredPast x r → r.number ≡ 9
+  pub past_number : DeclaresPast x r → r.number ≡ 9
   past_number h = from_decl (Past r) (λ b d y. ap (λ z. z.number) y.0) x.decls [] h
 
   abbrev Used : Type 0
-  Used = Contains (names_b t x.body []) r ↔ (UsedUnknown x r ⊎ UsedWrongly x r)
+  Used = Contains (names_b t x.body []) r ↔ (UsesUnknown x r ⊎ UsesWrongly x r)
 
   used_seven : r.number ≡ 7 → Used
   used_seven e =
-      let h = ended r (stands_b t r (Unknown x r) (unknown e) x.body []) in (
+      let h = ended r (stands_b t r (IsUnknownUse x r) (unknown e) x.body []) in (
         λ c. inl (h.0 c),
         λ v. ⊎_elim h.1 (λ w. absurd (let n = wrongly_number w in omega (arith, n, e))) v,
       )
 
   used_other : (r.number ≡ 7 → ⊥) → Used
   used_other e =
-      let h = ended r (stands_b t r (Missorted x r) (sorted e) x.body []) in (
+      let h = ended r (stands_b t r (IsOtherUse x r) (sorted e) x.body []) in (
         λ c. inr (h.0 c),
         λ v. ⊎_elim (λ w. absurd (e (unknown_number w))) h.1 v,
       )

@@ -4,13 +4,14 @@ use Rattle.std.proofs.lemmas.Slice.Eq.{bytes_eq-Decides}
 use Rattle.std.proofs.lemmas.Bool.{cases_Bool, leb-true}
 use Rattle.std.specs.Str.{bytes_eq}
 use Rattle.base.specs.declared.refusal.Refusal.{Refusal}
-use Rattle.parser.specs.Entries.{Entry}
-use Rattle.sema.specs.Faults.{at, before, also, unless, least_from, least}
+use Rattle.base.specs.Refusals.{refusal_at}
+use Rattle.parser.specs.Nodes.{Node}
+use Rattle.sema.specs.Faults.{before, also, unless, least_from, least}
 use Rattle.sema.specs.Tables.{Row, Table, look, row_of, empty}
-use Rattle.sema.specs.Names.{Declaring, decl_of, entered_by, entered, table_from}
+use Rattle.sema.specs.Names.{DeclaredName, decl_of, entered_by, table_after, table_from}
 use Rattle.sema.specs.Sizes.{cells_at, cells_fault, range_fault, size_faults}
 use Rattle.sema.specs.Emissions.{Narrow}
-use Rattle.sema.proofs.Lookups.{same}
+use Rattle.lexer.proofs.Lookups.{same}
 use Rattle.sema.proofs.Laying.{Laid, Once, Each, some_none, each_push, declared_keeps, good}
 
 -- no fault decides only where there is none
@@ -31,7 +32,7 @@ also_none (Some f) fs e = cons_nil f fs e
 
 pub unless_none : (b : Bool) (n p : ℕ) → unless b n p ≡ None → b ≡ true
 unless_none true n p e = refl
-unless_none false n p e = some_none (at n p) e
+unless_none false n p e = some_none (refusal_at n p) e
 
 each_map : (P Q : Row → Type 0) (rs : List Row) → ((r : Row) → P r → Q r) → Each P rs → Each Q rs
 each_map P Q [] f h = tt
@@ -63,18 +64,18 @@ unfolding cells_at
 cells_low T n p e = leb-true _ 4096 (unless_none (leb ((row_of T n).cell + (row_of T n).cells) 4096) 13 p e)
 
 module _ (T : Table) where
-  low_by : (t : Table) (o : Option Declaring) → cells_fault T o ≡ None → Each (λ r. low T r.name) t.rows → Each (λ r. low T r.name) (entered_by t o).rows
+  low_by : (t : Table) (o : Option DeclaredName) → cells_fault T o ≡ None → Each (λ r. low T r.name) t.rows → Each (λ r. low T r.name) (entered_by t o).rows
   low_by t None e h = h
   low_by t (Some d) e h =
-      declared_keeps (λ u. Each (λ r. low T r.name) u.rows) t d.name d.kind d.sort d.cells h
-      (λ _ _. each_push (λ r. low T r.name) t.rows _ h (cells_low T d.name d.place e))
+      declared_keeps (λ u. Each (λ r. low T r.name) u.rows) t d.name d.value_type d.sort d.cells h
+      (λ _ _. each_push (λ r. low T r.name) t.rows _ h (cells_low T d.name d.offset e))
 
-  low_from : (es : List Entry) (t : Table) → size_faults T es ≡ [] → Each (λ r. low T r.name) t.rows → Each (λ r. low T r.name) (table_from t es).rows
+  low_from : (es : List Node) (t : Table) → size_faults T es ≡ [] → Each (λ r. low T r.name) t.rows → Each (λ r. low T r.name) (table_from t es).rows
   low_from [] t e h = h
   low_from (x ∷ es) t e h =
       let p = also_none (cells_fault T (decl_of x)) (also (range_fault x) (size_faults T es)) e in
       let q = also_none (range_fault x) (size_faults T es) p.1 in
-      low_from es (entered t x) q.1 (low_by t (decl_of x) p.0 h)
+      low_from es (table_after t x) q.1 (low_by t (decl_of x) p.0 h)
 
 look_each : (P : List ℕ → Type 0) (rs : List Row) (n : List ℕ) → Each (λ r. P r.name) rs → (look rs n ≡ None) ⊎ P n
 look_each P [] n h = inl refl
@@ -93,13 +94,13 @@ laid_low : (s : ℕ) (rs : List Row) (n : ℕ) → Laid s rs n → s ≤ 4096 �
 laid_low s [] n h l e = omega arith
 laid_low s (r ∷ rs) n h l e = laid_low (s + r.cells) rs n h.1 (omega (arith, h.0, e.0)) e.1
 
-pub narrow_list : (es : List Entry) → size_faults (table_from empty es) es ≡ [] → Narrow (table_from empty es)
+pub narrow_list : (es : List Node) → size_faults (table_from empty es) es ≡ [] → Narrow (table_from empty es)
 narrow_list es e =
     let T = table_from empty es in
     let h = low_from T es empty e tt in
     record { narrow = λ n. ⊎_elim (λ m. missing_low T n m) (λ l. l) (look_each (low T) T.rows n h) }
 
-pub total_list : (es : List Entry) → size_faults (table_from empty es) es ≡ [] → (table_from empty es).cells ≤ 4096
+pub total_list : (es : List Node) → size_faults (table_from empty es) es ≡ [] → (table_from empty es).cells ≤ 4096
 total_list es e =
     let T = table_from empty es in
     let g = good es in

@@ -1,8 +1,9 @@
 -- A list of faults in parts: what it holds is in the first or in the rest. Assumes nothing.
 use Rattle.std.proofs.Common.{◌≡◌, ℕ, Bool, true, false, ◌⊎◌, ◌↔◌, List, [], ◌∷◌, Contains, Some, None, Option, sym, refl, ap, inl, inr, ⊎_elim, arith}
 use Rattle.base.specs.declared.refusal.Refusal.{Refusal}
+use Rattle.base.specs.Refusals.{refusal_at}
 use Rattle.ast.specs.Trees.{Expr, number, load, index, binary, negate, lnot, convert, field, shift, Clause, test, and, Cond, only, or, Step, absent, by, Stmt, assign, assign_at, deposit, deposit_at, when, either, choose, while, repeat, count, Body, end, then, Arms, last, arm, Decl}
-use Rattle.sema.specs.Faults.{at, also, unless}
+use Rattle.sema.specs.Faults.{also, unless}
 use Rattle.sema.specs.Parts.{SomeE, SomeL, SomeC, SomeP, SomeS, SomeB, SomeA, SomeDecl}
 use Rattle.sema.proofs.Laying.{some_none}
 use Rattle.sema.proofs.Least.{held, first_held, later_held, none_held}
@@ -77,12 +78,12 @@ told (Some f) fs r x = (
   λ v. ⊎_elim (λ l. first_held f fs r (let e : ◌≡◌ {A = Option Refusal} (Some f) (Some r) = x.0 l in let g : f ≡ r = cc in sym g)) (λ c. later_held f fs r c) v,
 )
 
-pub told_unless : (b : Bool) (n p : ℕ) (r : Refusal) → ((r ≡ at n p) × (b ≡ false)) ↔ (unless b n p ≡ Some r)
+pub told_unless : (b : Bool) (n p : ℕ) (r : Refusal) → ((r ≡ refusal_at n p) × (b ≡ false)) ↔ (unless b n p ≡ Some r)
 told_unless true n p r = (λ x. absurd (let z : ◌≡◌ {A = ℕ} 0 1 = (let e : ◌≡◌ {A = Bool} true false = x.1 in cc) in omega (arith, z)), λ e. some_none r (sym e))
-told_unless false n p r = (λ x. ap Some (sym x.0), λ e. (let g : at n p ≡ r = cc in (sym g, refl)))
+told_unless false n p r = (λ x. ap Some (sym x.0), λ e. (let g : refusal_at n p ≡ r = cc in (sym g, refl)))
 
 -- a fault that is told unless the test holds, its reason told otherwise
-pub judged : {Q : Type 0} (b : Bool) (n p : ℕ) (fs : List Refusal) (r : Refusal) → Q ↔ (b ≡ false) → Contains (also (unless b n p) fs) r ↔ (((r ≡ at n p) × Q) ⊎ Contains fs r)
+pub judged : {Q : Type 0} (b : Bool) (n p : ℕ) (fs : List Refusal) (r : Refusal) → Q ↔ (b ≡ false) → Contains (also (unless b n p) fs) r ↔ (((r ≡ refusal_at n p) × Q) ⊎ Contains fs r)
 judged b n p fs r q = told (unless b n p) fs r (through (λ x. (x.0, q.0 x.1), λ x. (x.0, q.1 x.1)) (told_unless b n p r))
 
 -- what follows from each part where it stands follows from the whole

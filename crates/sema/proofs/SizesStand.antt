@@ -4,17 +4,18 @@ use Rattle.std.proofs.lemmas.Bool.{cases_Bool, cases_lt, leb-false, lt-leb, eqb-
 use Rattle.std.proofs.lemmas.Slice.Eq.{bytes_eq-Decides}
 use Rattle.std.specs.Str.{bytes_eq}
 use Rattle.base.specs.declared.refusal.Refusal.{Refusal}
+use Rattle.base.specs.Refusals.{refusal_at}
 use Rattle.arith.specs.Fields.{is_field}
 use Rattle.ast.specs.Trees.{Expr, number, load, index, binary, negate, lnot, convert, field, shift, Clause, test, and, Cond, only, or, Step, absent, by, Stmt, assign, assign_at, deposit, deposit_at, when, either, choose, while, repeat, count, Body, end, then, Arms, last, arm, Decl, simple, array, Program}
-use Rattle.sema.specs.Faults.{at, also}
-use Rattle.sema.specs.Tables.{Row, Table, look, found, row_of}
+use Rattle.sema.specs.Faults.{also}
+use Rattle.sema.specs.Tables.{Row, Table, look, row_or_none, row_of}
 use Rattle.sema.specs.Names.{program_table}
 use Rattle.sema.specs.Sizes.{bits_fault, cells_at, sizes_d, sizes_e, sizes_l, sizes_c, sizes_p, sizes_s, sizes_b, sizes_a, program_sizes}
-use Rattle.sema.specs.Rules.{called, Unused, Once, Named, width, widths, rows_from, laid}
+use Rattle.sema.specs.Rules.{declared_name, IsUnused, Once, NamesHold, width, widths, rows_from, layout_of}
 use Rattle.sema.specs.Deciding.{Precedes, Decides}
 use Rattle.sema.specs.Parts.{SomeE, SomeL, SomeC, SomeP, SomeS, SomeB, SomeA, SomeDecl}
-use Rattle.sema.specs.Standing.{place_of, declares, OutE, OutS, OutD, Over, Passes, SizeFault, OutOfRange, TooWide}
-use Rattle.sema.proofs.Lookups.{same}
+use Rattle.sema.specs.Standing.{offset_of_decl, declares, OutE, OutS, OutD, Over, Passes, SizeFault, OutOfRange, TooWide}
+use Rattle.lexer.proofs.Lookups.{same}
 use Rattle.sema.proofs.NameRules.{laid_program}
 use Rattle.sema.proofs.NamesStand.{true_false, unused_false}
 use Rattle.sema.proofs.Shares.{both, swapped, skipped, nothing, recast, ended, judged, last_there, last_back, from_b, from_decl, split_there, split_back}
@@ -38,7 +39,7 @@ module _ (r : Refusal) where
   abbrev S : Stmt → Type 0
   S s = OutS r s
 
-  bits : (a b p : ℕ) (fs : List Refusal) → Contains (also (bits_fault a b p) fs) r ↔ (((r ≡ at 12 p) × (is_field a b ≡ false)) ⊎ Contains fs r)
+  bits : (a b p : ℕ) (fs : List Refusal) → Contains (also (bits_fault a b p) fs) r ↔ (((r ≡ refusal_at 12 p) × (is_field a b ≡ false)) ⊎ Contains fs r)
   bits a b p fs = judged (is_field a b) 12 p fs r (same_test (is_field a b))
 
   stands_e : (e : Expr) (fs : List Refusal) → Contains (sizes_e e fs) r ↔ (SomeE E T S e ⊎ Contains fs r)
@@ -88,27 +89,27 @@ module _ (r : Refusal) where
 -- the rows of declarations, the cells of each behind those of the ones before it
 abbrev Rows : Table → ℕ → List Decl → Type 0
 Rows t c [] = Unit {0}
-Rows t c (d ∷ ds) = ((row_of t (called d)).cell ≡ c) × ((row_of t (called d)).cells ≡ width d) × Rows t (c + width d) ds
+Rows t c (d ∷ ds) = ((row_of t (declared_name d)).cell ≡ c) × ((row_of t (declared_name d)).cells ≡ width d) × Rows t (c + width d) ds
 
 row_found : (t : Table) (n : List ℕ) (r : Row) → look t.rows n ≡ Some r → row_of t n ≡ r
 unfolding row_of
-row_found t n r e = ap found e
+row_found t n r e = ap row_or_none e
 
 module _ (t : Table) where
   -- among the rows of these declarations a name that one of the later ones has is found behind the first
-  rest : (d : Decl) (ds : List Decl) (r : Row) (rs : List Row) → r.name ≡ called d → Unused (called d) ds → ((n : List ℕ) → declares (d ∷ ds) n ≡ true → look t.rows n ≡ look (r ∷ rs) n) → (n : List ℕ) → declares ds n ≡ true → look t.rows n ≡ look rs n
+  rest : (d : Decl) (ds : List Decl) (r : Row) (rs : List Row) → r.name ≡ declared_name d → IsUnused (declared_name d) ds → ((n : List ℕ) → declares (d ∷ ds) n ≡ true → look t.rows n ≡ look (r ∷ rs) n) → (n : List ℕ) → declares ds n ≡ true → look t.rows n ≡ look rs n
   rest d ds r rs i u h n e =
-      h n (or_right (bytes_eq (called d) n) (declares ds n) e)
+      h n (or_right (bytes_eq (declared_name d) n) (declares ds n) e)
       ∙ ⊎_elim
-      (λ q. true_false (declares ds n) e (ap (declares ds) (sym ((bytes_eq-Decides r.name n).0 q) ∙ i) ∙ unused_false ds (called d) u))
+      (λ q. true_false (declares ds n) e (ap (declares ds) (sym ((bytes_eq-Decides r.name n).0 q) ∙ i) ∙ unused_false ds (declared_name d) u))
       (λ q. rw q refl)
       (cases_Bool (bytes_eq r.name n))
 
-  here : (d : Decl) (ds : List Decl) (r : Row) (rs : List Row) → r.name ≡ called d → ((n : List ℕ) → declares (d ∷ ds) n ≡ true → look t.rows n ≡ look (r ∷ rs) n) → row_of t (called d) ≡ r
+  here : (d : Decl) (ds : List Decl) (r : Row) (rs : List Row) → r.name ≡ declared_name d → ((n : List ℕ) → declares (d ∷ ds) n ≡ true → look t.rows n ≡ look (r ∷ rs) n) → row_of t (declared_name d) ≡ r
   here d ds r rs i h =
-      let s : bytes_eq (called d) (called d) ≡ true = same (called d) (called d) refl in
-      let q : bytes_eq r.name (called d) ≡ true = same r.name (called d) i in
-      row_found t (called d) r (h (called d) (rw s refl) ∙ rw q refl)
+      let s : bytes_eq (declared_name d) (declared_name d) ≡ true = same (declared_name d) (declared_name d) refl in
+      let q : bytes_eq r.name (declared_name d) ≡ true = same r.name (declared_name d) i in
+      row_found t (declared_name d) r (h (declared_name d) (rw s refl) ∙ rw q refl)
 
   rows_are : (ds : List Decl) (c : ℕ) → Once ds → ((n : List ℕ) → declares ds n ≡ true → look t.rows n ≡ look (rows_from c ds) n) → Rows t c ds
   rows_are [] c o h = tt
@@ -119,18 +120,18 @@ module _ (t : Table) where
       let e = here (array n k l u p q) ds _ (rows_from (c + (u + 1)) ds) refl h in
       (ap (λ r. r.cell) e, ap (λ r. r.cells) e, rows_are ds (c + (u + 1)) o.1 (rest (array n k l u p q) ds _ (rows_from (c + (u + 1)) ds) refl o.0 h))
 
-rows_program : (x : Program) → Named x → Rows (program_table x) 0 x.decls
-rows_program x d = rw (laid_program x d) (rows_are (laid x.decls) x.decls 0 d.once (λ n e. refl))
+rows_program : (x : Program) → NamesHold x → Rows (program_table x) 0 x.decls
+rows_program x d = rw (laid_program x d) (rows_are (layout_of x.decls) x.decls 0 d.once (λ n e. refl))
 
 module _ (t : Table) (r : Refusal) where
   abbrev Fault : List Decl → Decl → Type 0
   Fault b d = OutD r b d ⊎ Over r b d
 
-  cells : (b : List Decl) (d : Decl) (c : ℕ) (fs : List Refusal) → c ≡ widths b → (row_of t (called d)).cell ≡ c → (row_of t (called d)).cells ≡ width d → Contains (also (cells_at t (called d) (place_of d)) fs) r ↔ (Over r b d ⊎ Contains fs r)
+  cells : (b : List Decl) (d : Decl) (c : ℕ) (fs : List Refusal) → c ≡ widths b → (row_of t (declared_name d)).cell ≡ c → (row_of t (declared_name d)).cells ≡ width d → Contains (also (cells_at t (declared_name d) (offset_of_decl d)) fs) r ↔ (Over r b d ⊎ Contains fs r)
   unfolding cells_at
   cells b d c fs e f g =
-      let n = (row_of t (called d)).cell + (row_of t (called d)).cells in
-      judged (leb n 4096) 13 (place_of d) fs r (
+      let n = (row_of t (declared_name d)).cell + (row_of t (declared_name d)).cells in
+      judged (leb n 4096) 13 (offset_of_decl d) fs r (
         λ l. lt-leb n 4096 (omega (arith, e, f, g, l)),
         λ h. (let l : 4096 < n = leb-false n 4096 h in omega (arith, e, f, g, l)),
       )
@@ -145,7 +146,7 @@ module _ (t : Table) (r : Refusal) where
       (stands_d ds (array n k l u p q ∷ b) (c + (u + 1)) fs (omega (arith, e)) h.2)
 
 module _ (x : Program) where
-  pub sizes_stand : Named x → (r : Refusal) → Contains (program_sizes x) r ↔ SizeFault x r
+  pub sizes_stand : NamesHold x → (r : Refusal) → Contains (program_sizes x) r ↔ SizeFault x r
   unfolding program_sizes
   sizes_stand d r =
       let h = stands_d (program_table x) r x.decls [] 0 (sizes_b x.body []) refl (rows_program x d) in
@@ -160,23 +161,23 @@ module _ (x : Program) where
             f),
       )
 
--- each declaration stands at a larger place than the one before it
+-- each declaration stands at a larger offset than the one before it
 abbrev pub After : ℕ → List Decl → Type 0
 After p [] = Unit {0}
-After p (d ∷ ds) = p < place_of d
+After p (d ∷ ds) = p < offset_of_decl d
 
 abbrev pub InOrder : List Decl → Type 0
 InOrder [] = Unit {0}
-InOrder (d ∷ ds) = After (place_of d) ds × InOrder ds
+InOrder (d ∷ ds) = After (offset_of_decl d) ds × InOrder ds
 
 module _ (r : Refusal) where
   -- all places behind a name are larger
   later : (ds b : List Decl) (p : ℕ) → After p ds → InOrder ds → SomeDecl (Over r) b ds → p < r.place
   later [] b p a o x = absurd x
-  later (d ∷ ds) b p a o (inl y) = (let e : r.place ≡ place_of d = ap (λ z. z.place) y.0 in omega (arith, e, a))
-  later (d ∷ ds) b p a o (inr y) = (let l = later ds (d ∷ b) (place_of d) o.0 o.1 y in omega (arith, l, a))
+  later (d ∷ ds) b p a o (inl y) = (let e : r.place ≡ offset_of_decl d = ap (λ z. z.place) y.0 in omega (arith, e, a))
+  later (d ∷ ds) b p a o (inr y) = (let l = later ds (d ∷ b) (offset_of_decl d) o.0 o.1 y in omega (arith, l, a))
 
-  not_before : (p : ℕ) → p < r.place → Precedes r (at 13 p) → ⊥
+  not_before : (p : ℕ) → p < r.place → Precedes r (refusal_at 13 p) → ⊥
   not_before p l (inl m) = omega (arith, l, m)
   not_before p l (inr m) = omega (arith, l, m.0)
 
@@ -185,7 +186,7 @@ module _ (r : Refusal) where
   first_d (d ∷ ds) b o l h (inl y) = inl (y, l)
   first_d (d ∷ ds) b o l h (inr y) =
       inr (⊎_elim
-      (λ m. absurd (not_before (place_of d) (later ds (d ∷ b) (place_of d) o.0 o.1 y) (h (at 13 (place_of d)) (inl (refl, m)))))
+      (λ m. absurd (not_before (offset_of_decl d) (later ds (d ∷ b) (offset_of_decl d) o.0 o.1 y) (h (refusal_at 13 (offset_of_decl d)) (inl (refl, m)))))
       (λ m. first_d ds (d ∷ b) o.1 (omega (arith, m)) (λ g z. h g (inr z)) y)
       (cases_lt 4096 (widths b + width d)))
 

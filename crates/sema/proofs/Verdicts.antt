@@ -1,20 +1,20 @@
 -- The stages one after the other, by the faults that stand in a tree. Assumes nothing.
 use Rattle.std.proofs.Common.{◌≡◌, ℕ, ◌⊎◌, ◌↔◌, List, Contains, Some, None, Ok, Err, Option, sym, refl, ap, ◌∙◌, inl, inr, ⊎_elim, arith, []}
 use Rattle.base.specs.declared.refusal.Refusal.{Refusal}
-use Rattle.base.specs.Refusals.{then}
-use Rattle.parser.specs.Works.{syntaxed}
+use Rattle.base.specs.Refusals.{refusal_at, then}
+use Rattle.parser.specs.Works.{syntax_list}
 use Rattle.ast.specs.Trees.{Program}
 use Rattle.ast.specs.Lists.{list}
-use Rattle.sema.specs.Faults.{at, least}
+use Rattle.sema.specs.Faults.{least}
 use Rattle.sema.specs.Parts.{SomeDecl}
 use Rattle.sema.specs.Names.{program_names}
 use Rattle.sema.specs.Types.{program_types}
 use Rattle.sema.specs.Sizes.{program_sizes}
-use Rattle.sema.specs.Rules.{Named}
-use Rattle.sema.specs.Works.{Checked, earlier, verdict, answered, outcome, judged, checked}
+use Rattle.sema.specs.Rules.{NamesHold}
+use Rattle.sema.specs.Works.{CheckedSource, earlier, verdict, unless_fault, outcome, list_check, source_check}
 use Rattle.sema.specs.Deciding.{Decides, Free}
-use Rattle.sema.specs.Standing.{UsedUnknown, DeclaredAgain, DeclaredPast, UsedWrongly, NameFault, TypeFault, OutOfRange, TooWide, SizeFault, Passes}
-use Rattle.sema.specs.Verdicts.{FaultsStand, Refused, Unrefused, RefusedExactly}
+use Rattle.sema.specs.Standing.{UsesUnknown, DeclaresAgain, DeclaresPast, UsesWrongly, NameFault, TypeFault, OutOfRange, TooWide, SizeFault, Passes}
+use Rattle.sema.specs.Verdicts.{FaultsStand, IsRefusedWith, IsNotRefused, RefusedExactly}
 use Rattle.sema.proofs.Laying.{some_none}
 use Rattle.sema.proofs.Least.{least_decides}
 use Rattle.sema.proofs.OnNames.{table_program, names_program}
@@ -29,69 +29,69 @@ use Rattle.sema.proofs.SourceOrder.{source_order}
 
 -- of the faults of names those of one number
 module _ (x : Program) (p : ℕ) where
-  seven : Contains (program_names x) (at 7 p) ↔ UsedUnknown x (at 7 p)
+  seven : Contains (program_names x) (refusal_at 7 p) ↔ UsesUnknown x (refusal_at 7 p)
   seven =
-      let h = names_stand x (at 7 p) in (
+      let h = names_stand x (refusal_at 7 p) in (
         λ c. ⊎_elim
             (λ y. y)
             (⊎_elim
-            (λ y. absurd (let n = again_number x (at 7 p) y in omega (arith, n)))
+            (λ y. absurd (let n = again_number x (refusal_at 7 p) y in omega (arith, n)))
             (⊎_elim
-            (λ y. absurd (let n = past_number x (at 7 p) y in omega (arith, n)))
-            (λ y. absurd (let n = wrongly_number x (at 7 p) y in omega (arith, n)))))
+            (λ y. absurd (let n = past_number x (refusal_at 7 p) y in omega (arith, n)))
+            (λ y. absurd (let n = wrongly_number x (refusal_at 7 p) y in omega (arith, n)))))
             (h.0 c),
         λ y. h.1 (inl y),
       )
 
-  eight : Contains (program_names x) (at 8 p) ↔ DeclaredAgain x (at 8 p)
+  eight : Contains (program_names x) (refusal_at 8 p) ↔ DeclaresAgain x (refusal_at 8 p)
   eight =
-      let h = names_stand x (at 8 p) in (
+      let h = names_stand x (refusal_at 8 p) in (
         λ c. ⊎_elim
-            (λ y. absurd (let n = unknown_number x (at 8 p) y in omega (arith, n)))
+            (λ y. absurd (let n = unknown_number x (refusal_at 8 p) y in omega (arith, n)))
             (⊎_elim
             (λ y. y)
             (⊎_elim
-            (λ y. absurd (let n = past_number x (at 8 p) y in omega (arith, n)))
-            (λ y. absurd (let n = wrongly_number x (at 8 p) y in omega (arith, n)))))
+            (λ y. absurd (let n = past_number x (refusal_at 8 p) y in omega (arith, n)))
+            (λ y. absurd (let n = wrongly_number x (refusal_at 8 p) y in omega (arith, n)))))
             (h.0 c),
         λ y. h.1 (inr (inl y)),
       )
 
-  nine : Contains (program_names x) (at 9 p) ↔ DeclaredPast x (at 9 p)
+  nine : Contains (program_names x) (refusal_at 9 p) ↔ DeclaresPast x (refusal_at 9 p)
   nine =
-      let h = names_stand x (at 9 p) in (
+      let h = names_stand x (refusal_at 9 p) in (
         λ c. ⊎_elim
-            (λ y. absurd (let n = unknown_number x (at 9 p) y in omega (arith, n)))
+            (λ y. absurd (let n = unknown_number x (refusal_at 9 p) y in omega (arith, n)))
             (⊎_elim
-            (λ y. absurd (let n = again_number x (at 9 p) y in omega (arith, n)))
-            (⊎_elim (λ y. y) (λ y. absurd (let n = wrongly_number x (at 9 p) y in omega (arith, n)))))
+            (λ y. absurd (let n = again_number x (refusal_at 9 p) y in omega (arith, n)))
+            (⊎_elim (λ y. y) (λ y. absurd (let n = wrongly_number x (refusal_at 9 p) y in omega (arith, n)))))
             (h.0 c),
         λ y. h.1 (inr (inr (inl y))),
       )
 
-  ten : Contains (program_names x) (at 10 p) ↔ UsedWrongly x (at 10 p)
+  ten : Contains (program_names x) (refusal_at 10 p) ↔ UsesWrongly x (refusal_at 10 p)
   ten =
-      let h = names_stand x (at 10 p) in (
+      let h = names_stand x (refusal_at 10 p) in (
         λ c. ⊎_elim
-            (λ y. absurd (let n = unknown_number x (at 10 p) y in omega (arith, n)))
+            (λ y. absurd (let n = unknown_number x (refusal_at 10 p) y in omega (arith, n)))
             (⊎_elim
-            (λ y. absurd (let n = again_number x (at 10 p) y in omega (arith, n)))
-            (⊎_elim (λ y. absurd (let n = past_number x (at 10 p) y in omega (arith, n))) (λ y. y)))
+            (λ y. absurd (let n = again_number x (refusal_at 10 p) y in omega (arith, n)))
+            (⊎_elim (λ y. absurd (let n = past_number x (refusal_at 10 p) y in omega (arith, n))) (λ y. y)))
             (h.0 c),
         λ y. h.1 (inr (inr (inr y))),
       )
 
   -- and of those of sizes
-  module _ (d : Named x) where
-    twelve : Contains (program_sizes x) (at 12 p) ↔ OutOfRange x (at 12 p)
+  module _ (d : NamesHold x) where
+    twelve : Contains (program_sizes x) (refusal_at 12 p) ↔ OutOfRange x (refusal_at 12 p)
     twelve =
-        let h = sizes_stand x d (at 12 p) in
-        (λ c. ⊎_elim (λ y. y) (λ y. absurd (let n = wide_number (at 12 p) x y in omega (arith, n))) (h.0 c), λ y. h.1 (inl y))
+        let h = sizes_stand x d (refusal_at 12 p) in
+        (λ c. ⊎_elim (λ y. y) (λ y. absurd (let n = wide_number (refusal_at 12 p) x y in omega (arith, n))) (h.0 c), λ y. h.1 (inl y))
 
-    thirteen : Contains (program_sizes x) (at 13 p) ↔ TooWide x (at 13 p)
+    thirteen : Contains (program_sizes x) (refusal_at 13 p) ↔ TooWide x (refusal_at 13 p)
     thirteen =
-        let h = sizes_stand x d (at 13 p) in
-        (λ c. ⊎_elim (λ y. absurd (let n = range_number (at 13 p) x y in omega (arith, n))) (λ y. y) (h.0 c), λ y. h.1 (inr y))
+        let h = sizes_stand x d (refusal_at 13 p) in
+        (λ c. ⊎_elim (λ y. absurd (let n = range_number (refusal_at 13 p) x y in omega (arith, n))) (λ y. y) (h.0 c), λ y. h.1 (inr y))
 
 pub faults_stand : FaultsStand
 faults_stand =
@@ -185,58 +185,58 @@ module _ (x : Program) where
   unfolding verdict
   verdict_is = rw (table_program x, names_program x, types_program x, sizes_program x) refl
 
-  refused_verdict : (r : Refusal) → (verdict (list x) ≡ Some r) ↔ Refused x r
+  refused_verdict : (r : Refusal) → (verdict (list x) ≡ Some r) ↔ IsRefusedWith x r
   refused_verdict r =
       let h = in_turn (NameFault x) (TypeFault x) (SizeFault x) (least (program_names x)) (least (program_types x)) (least (program_sizes x)) names_answer types_answer sizes_answer r in
       (λ e. h.0 (sym verdict_is ∙ e), λ v. verdict_is ∙ h.1 v)
 
-  passed_verdict : (verdict (list x) ≡ None) ↔ Unrefused x
+  passed_verdict : (verdict (list x) ≡ None) ↔ IsNotRefused x
   passed_verdict =
       let h = no_turn (NameFault x) (TypeFault x) (SizeFault x) (least (program_names x)) (least (program_types x)) (least (program_sizes x)) names_answer types_answer sizes_answer in
       (λ e. h.0 (sym verdict_is ∙ e), λ v. verdict_is ∙ h.1 v)
 
-answered_err : (a : Option Refusal) (y : Checked) (r : Refusal) → (answered a y ≡ Err r) ↔ (a ≡ Some r)
+answered_err : (a : Option Refusal) (y : CheckedSource) (r : Refusal) → (unless_fault a y ≡ Err r) ↔ (a ≡ Some r)
 answered_err None y r = (λ e. absurd (let z : ◌≡◌ {A = ℕ} 0 1 = cc in omega (arith, z)), λ e. some_none r (sym e))
 answered_err (Some f) y r = (λ e. (let g : f ≡ r = cc in ap Some g), λ e. ap Err (some_same f r e))
 
-answered_ok : (a : Option Refusal) (y : Checked) → (answered a y ≡ Ok y) ↔ (a ≡ None)
+answered_ok : (a : Option Refusal) (y : CheckedSource) → (unless_fault a y ≡ Ok y) ↔ (a ≡ None)
 answered_ok None y = (λ e. refl, λ e. refl)
 answered_ok (Some f) y = (λ e. absurd (let z : ◌≡◌ {A = ℕ} 0 1 = cc in omega (arith, z)), λ e. some_none f e)
 
-module _ (source : List ℕ) (x : Program) (read : syntaxed source ≡ Ok (list x)) where
-  checked_is : checked source ≡ answered (verdict (list x)) (outcome (list x))
-  unfolding checked judged
-  checked_is = ap (λ r. then r judged) read
+module _ (source : List ℕ) (x : Program) (read : syntax_list source ≡ Ok (list x)) where
+  checked_is : source_check source ≡ unless_fault (verdict (list x)) (outcome (list x))
+  unfolding source_check list_check
+  checked_is = ap (λ r. then r list_check) read
 
-  refused_source : (r : Refusal) → (checked source ≡ Err r) ↔ Refused x r
+  refused_source : (r : Refusal) → (source_check source ≡ Err r) ↔ IsRefusedWith x r
   refused_source r =
       let h = through (answered_err (verdict (list x)) (outcome (list x)) r) (refused_verdict x r) in
       (λ e. h.0 (sym checked_is ∙ e), λ v. checked_is ∙ h.1 v)
 
-  accepted_source : (checked source ≡ Ok (outcome (list x))) ↔ Unrefused x
+  accepted_source : (source_check source ≡ Ok (outcome (list x))) ↔ IsNotRefused x
   accepted_source =
       let h = through (answered_ok (verdict (list x)) (outcome (list x))) (passed_verdict x) in
       (λ e. h.0 (sym checked_is ∙ e), λ v. checked_is ∙ h.1 v)
 
 -- 13 is no fault of names and none of types
 module _ (x : Program) (p : ℕ) where
-  no_name : NameFault x (at 13 p) → ⊥
+  no_name : NameFault x (refusal_at 13 p) → ⊥
   no_name h =
       ⊎_elim
-      (λ y. let n = unknown_number x (at 13 p) y in omega (arith, n))
+      (λ y. let n = unknown_number x (refusal_at 13 p) y in omega (arith, n))
       (⊎_elim
-      (λ y. let n = again_number x (at 13 p) y in omega (arith, n))
-      (⊎_elim (λ y. let n = past_number x (at 13 p) y in omega (arith, n)) (λ y. let n = wrongly_number x (at 13 p) y in omega (arith, n))))
+      (λ y. let n = again_number x (refusal_at 13 p) y in omega (arith, n))
+      (⊎_elim (λ y. let n = past_number x (refusal_at 13 p) y in omega (arith, n)) (λ y. let n = wrongly_number x (refusal_at 13 p) y in omega (arith, n))))
       h
 
-  no_type : TypeFault x (at 13 p) → ⊥
-  no_type h = let n = type_number x (at 13 p) h in omega (arith, n)
+  no_type : TypeFault x (refusal_at 13 p) → ⊥
+  no_type h = let n = type_number x (refusal_at 13 p) h in omega (arith, n)
 
-  wide_first : InOrder x.decls → Refused x (at 13 p) → SomeDecl (Passes (at 13 p)) [] x.decls
+  wide_first : InOrder x.decls → IsRefusedWith x (refusal_at 13 p) → SomeDecl (Passes (refusal_at 13 p)) [] x.decls
   wide_first o h =
       ⊎_elim
       (λ y. absurd (no_name y.0))
-      (⊎_elim (λ y. absurd (no_type y.1.0)) (λ y. passed (at 13 p) x o y.2 refl))
+      (⊎_elim (λ y. absurd (no_type y.1.0)) (λ y. passed (refusal_at 13 p) x o y.2 refl))
       h
 
 pub refused_exactly : RefusedExactly
@@ -244,5 +244,5 @@ refused_exactly =
     record {
       refused = refused_source;
       accepted = accepted_source;
-      passed = λ source x e p h. wide_first x p (source_order source x e) ((refused_source source x e (at 13 p)).0 h);
+      passed = λ source x e p h. wide_first x p (source_order source x e) ((refused_source source x e (refusal_at 13 p)).0 h);
     }

@@ -1,8 +1,9 @@
--- What stands somewhere in a tree.
+-- That something holds of some part of a tree.
 use Rattle.std.specs.Prelude.{ℕ, ◌⊎◌, List, [], ◌∷◌}
 use Rattle.ast.specs.Trees.{Expr, number, load, index, binary, negate, lnot, convert, field, shift, Clause, test, and, Cond, only, or, Step, absent, by, Stmt, assign, assign_at, deposit, deposit_at, when, either, choose, while, repeat, count, Body, end, then, Arms, last, arm, Decl}
 
--- somewhere in it an expression is as E says, an expr of a condition with its place as T says, or a statement as S says
+-- Somewhere in the tree an expression satisfies E, or an expression of a condition, with its offset, satisfies T, or a
+-- statement satisfies S.
 module _ (E : Expr → Type 0) (T : ℕ → Expr → Type 0) (S : Stmt → Type 0) where
   abbrev pub SomeE : Expr → Type 0
   SomeE (number v k) = E (number v k)
@@ -48,8 +49,8 @@ module _ (E : Expr → Type 0) (T : ℕ → Expr → Type 0) (S : Stmt → Type 
     SomeA (last b) = SomeB b
     SomeA (arm b a) = SomeB b ⊎ SomeA a
 
--- Some declaration is as P says of it and of those that stand before it, the last of them first: some of them stand before
--- already, and these follow.
+-- Some declaration of the list satisfies P, which also speaks of the declarations before it, with the last of them
+-- first. `before` are those before the list.
 abbrev pub SomeDecl : (List Decl → Decl → Type 0) → List Decl → List Decl → Type 0
 SomeDecl P before [] = ⊥
 SomeDecl P before (d ∷ ds) = P before d ⊎ SomeDecl P (d ∷ before) ds

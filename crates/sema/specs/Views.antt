@@ -1,12 +1,15 @@
--- The views of an entry that the code holds, as the definitions have them.
+-- What the code tells of a declaration and of a use of a name, as the definitions have it.
 use Rattle.lexer.specs.Names.{name_of}
 use Rattle.sema.specs.declared.view.Declaration.{Declaration}
 use Rattle.sema.specs.declared.view.Mention.{Mention}
 use Rattle.sema.specs.Entered.{sort_of, cells_of}
-use Rattle.sema.specs.Names.{Declaring, Use}
+use Rattle.sema.specs.Names.{DeclaredName, Use}
 
-abbrev pub declaring_of : Declaration → Declaring
-declaring_of d = record { name = name_of d.name; kind = d.kind; sort = sort_of d.high; cells = cells_of d.high; place = d.place }
+-- A declaration of the code.
+abbrev pub declared_name_of : Declaration → DeclaredName
+declared_name_of d =
+    record { name = name_of d.name; value_type = d.value_type; sort = sort_of d.high; cells = cells_of d.high; offset = d.offset }
 
-abbrev pub used_by : Mention → Use
-used_by m = record { name = name_of m.name; sort = m.sort; place = m.place }
+-- A use of a name in the code.
+abbrev pub use_of_mention : Mention → Use
+use_of_mention m = record { name = name_of m.name; sort = m.sort; offset = m.offset }

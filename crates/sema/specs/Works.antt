@@ -1,10 +1,10 @@
--- What becomes of a source, what a workspace holds, and what `check` leaves in it.
+-- What the stages answer for a source, what a workspace holds, and what `check` leaves in it.
 use Rattle.std.specs.Prelude.{◌≡◌, ℕ, List, [], Some, None, Ok, Err, Option, Result}
 use Rattle.base.specs.declared.refusal.Refusal.{Refusal}
 use Rattle.base.specs.Refusals.{then}
-use Rattle.parser.specs.Entries.{Entry}
-use Rattle.parser.specs.Machine.{Parsed}
-use Rattle.parser.specs.Works.{syntaxed, list_of}
+use Rattle.parser.specs.Nodes.{Node}
+use Rattle.parser.specs.Machine.{ParseAnswer}
+use Rattle.parser.specs.Works.{syntax_list, list_of}
 use Rattle.ir.specs.declared.item.Item.{Item}
 use Rattle.sema.specs.declared.fault.CheckFault.{CheckFault}
 use Rattle.sema.specs.declared.workspace.Workspace.{Workspace}
@@ -16,52 +16,61 @@ use Rattle.sema.specs.Types.{type_faults}
 use Rattle.sema.specs.Sizes.{size_faults}
 use Rattle.sema.specs.Emitting.{typed_list}
 
--- the typed list of a source, and its names
-pub record Checked : Type 0 where
+-- The typed list of a source, and its table of names.
+pub record CheckedSource : Type 0 where
   pub items : List Item
   pub table : Table
 
--- a fault of an earlier stage goes before any of a later one
+-- The fault of an earlier stage, or the one of a later stage if the earlier has none.
 abbrev pub earlier : Option Refusal → Option Refusal → Option Refusal
 earlier None g = g
 earlier (Some f) g = Some f
 
--- the fault that decides: names, then types, then sizes, each over the whole list
-unfoldable pub verdict : List Entry → Option Refusal
+-- The fault that decides for a syntax list: of the stage of names, else of types, else of sizes. Each stage looks at
+-- the whole list.
+unfoldable pub verdict : List Node → Option Refusal
 verdict es =
     earlier (least (name_faults empty es)) (earlier (least (type_faults (table_from empty es) es [])) (least (size_faults (table_from empty es) es)))
 
-abbrev pub answered : Option Refusal → Checked → Result Checked Refusal
-answered None x = Ok x
-answered (Some f) x = Err f
+-- The answer x if there is no fault, else the fault.
+abbrev pub unless_fault : Option Refusal → CheckedSource → Result CheckedSource Refusal
+unless_fault None x = Ok x
+unless_fault (Some f) x = Err f
 
-abbrev pub outcome : List Entry → Checked
+-- The typed list and the table of names of a syntax list.
+abbrev pub outcome : List Node → CheckedSource
 outcome es = record { items = typed_list es; table = table_from empty es }
 
-unfoldable pub judged : List Entry → Result Checked Refusal
-judged es = answered (verdict es) (outcome es)
+-- The answer of the stages of names, types and sizes for a syntax list.
+unfoldable pub list_check : List Node → Result CheckedSource Refusal
+list_check es = unless_fault (verdict es) (outcome es)
 
--- a source after every stage: text and grammar, names, types, sizes
-unfoldable pub checked : List ℕ → Result Checked Refusal
-checked source = then (syntaxed source) judged
+-- The answer for a source after every stage: text and grammar, names, types, sizes.
+unfoldable pub source_check : List ℕ → Result CheckedSource Refusal
+source_check source = then (syntax_list source) list_check
 
--- the list that a source is read to; none if it is refused there
-abbrev pub entries_from : Parsed → List Entry
-entries_from (Ok es) = es
-entries_from (Err f) = []
+-- The syntax list of a source; it is empty if text or grammar refuse the source.
+abbrev pub nodes_from : ParseAnswer → List Node
+nodes_from (Ok es) = es
+nodes_from (Err f) = []
 
--- what a workspace holds
-abbrev pub holds : Workspace → Checked
+-- The typed list and the table of names that a workspace holds.
+abbrev pub holds : Workspace → CheckedSource
 holds w = record { items = w.stages.items; table = table_as w.stages.table }
 
-abbrev pub nodes_of : Workspace → List Entry
+-- The syntax list that a workspace holds.
+abbrev pub nodes_of : Workspace → List Node
 nodes_of w = list_of w.syntax
 
-abbrev pub nothing : Checked
+-- What a workspace holds after a refusal: no typed list and no names.
+abbrev pub nothing : CheckedSource
 nothing = record { items = []; table = empty }
 
--- Accepted, with the number of its cells, and the workspace holds its typed list and its names. Or refused so, and the
--- workspace holds none. The syntax list is the source's in either case, if the grammar accepts it.
-abbrev pub Done : List ℕ → Workspace → Result ℕ CheckFault → Type 0
-Done source w (Ok n) = (checked source ≡ Ok (holds w)) × (n ≡ (holds w).table.cells) × (nodes_of w ≡ entries_from (syntaxed source))
-Done source w (Err e) = (checked source ≡ Err (refusal_of e)) × (holds w ≡ nothing) × (nodes_of w ≡ entries_from (syntaxed source))
+-- What `check` leaves. If the source is accepted, it answers the number of cells, and the workspace holds the typed
+-- list and the names. If it is refused, the workspace holds neither. In either case the workspace holds the syntax
+-- list of the source, if the grammar accepts it.
+abbrev pub ChecksSource : List ℕ → Workspace → Result ℕ CheckFault → Type 0
+ChecksSource source w (Ok n) =
+    (source_check source ≡ Ok (holds w)) × (n ≡ (holds w).table.cells) × (nodes_of w ≡ nodes_from (syntax_list source))
+ChecksSource source w (Err e) =
+    (source_check source ≡ Err (refusal_of e)) × (holds w ≡ nothing) × (nodes_of w ≡ nodes_from (syntax_list source))

@@ -1,21 +1,22 @@
 // How the arms of each CASE are counted, from the end of the list to its beginning.
 ghost use Rattle.std.specs.Prelude.{◌≡◌, ◌+◌, ◌<◌, ◌≤◌, length, [], IfOk};
-ghost use Rattle.parser.specs.Entries.{entry_of, entries as entries_of};
+ghost use Rattle.base.specs.Limits.{most_nodes};
+ghost use Rattle.parser.specs.Nodes.{node_of, node_list as nodes_in};
 ghost use Rattle.base.specs.Stacks.{below};
-ghost use Rattle.sema.specs.CaseArms.{first, tallied, counted, spent};
+ghost use Rattle.sema.specs.CaseArms.{first, counts_with, arm_counts, counts_after};
 
-use crate::workspace::ENTRIES;
+use base::limits::MOST_NODES;
 use base::reserved::Reserved;
 use parser::node::Node;
 use std::alloc::{AllocError, Global};
 use std::marker::Model;
 
-// Two stacks of numbers of arms. On top of `opened` is that of the innermost CASE that is still open, on top of `closed`
-// that of the first CASE in the list among those that are counted.
+// Two stacks of numbers of arms. `opened` has the numbers of the CASEs that are still open, with the innermost on
+// top. `closed` has those of the CASEs that are counted, with the first one in the list on top.
 #[derive(Drop)]
 pub(crate) struct Arms {
-    opened: Reserved<u16, ENTRIES>,
-    closed: Reserved<u16, ENTRIES>,
+    opened: Reserved<u16, MOST_NODES>,
+    closed: Reserved<u16, MOST_NODES>,
 }
 
 impl Model for Arms {
@@ -45,12 +46,12 @@ impl Arms {
         self.opened.pop().unwrap_or(0)
     }
 
-    // Looks at one entry: `Esac` begins a number, `Arm` adds one to it, `Case` ends it.
+    // Looks at one node: `Esac` begins a number, `Arm` adds one to it, `Case` ends it.
     fn tally(&mut self, node: Node)
         requires few { first self.old.opened < 65535 }
-        requires opened { length self.old.opened < ENTRIES }
-        requires closed { length self.old.closed < ENTRIES }
-        ensures counts { self.new ≡ tallied (entry_of node) self.old }
+        requires opened { length self.old.opened < most_nodes }
+        requires closed { length self.old.closed < most_nodes }
+        ensures counts { self.new ≡ counts_with (node_of node) self.old }
         ensures opened { length self.new.opened ≤ length self.old.opened + 1 }
         ensures closed { length self.new.closed ≤ length self.old.closed + 1 }
     {
@@ -72,8 +73,8 @@ impl Arms {
 
     // Counts the arms of every CASE of a list.
     pub(crate) fn count(&mut self, nodes: &[Node])
-        requires { length nodes.now ≤ 65535 }
-        ensures { self.new ≡ counted (entries_of nodes.now) }
+        requires { length nodes.now < most_nodes }
+        ensures { self.new ≡ arm_counts (nodes_in nodes.now) }
     {
         self.opened.clear();
         self.closed.clear();
@@ -82,16 +83,16 @@ impl Arms {
         }
     }
 
-    // How many arms the first CASE has that is not spent.
+    // How many arms the next CASE has, whose number is not used yet.
     pub(crate) fn next(&self) -> u16
         ensures { result ≡ first self.now.closed }
     {
         self.closed.peek(0).unwrap_or(0)
     }
 
-    // Takes away the number of the first CASE, where this entry is a CASE.
+    // Takes away the number of the next CASE, if this node is that CASE.
     pub(crate) fn spend(&mut self, node: Node)
-        ensures { self.new ≡ record { opened = self.old.opened; closed = spent (entry_of node) self.old.closed } }
+        ensures { self.new ≡ record { opened = self.old.opened; closed = counts_after (node_of node) self.old.closed } }
     {
         if let Node::Case(_) = node {
             let _ = self.closed.pop();

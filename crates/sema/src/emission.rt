@@ -1,11 +1,11 @@
-// What each entry of the syntax list becomes in the typed list.
+// What each node of the syntax list becomes in the typed list.
 ghost use Rattle.std.specs.Prelude.{◌≡◌};
 ghost use Rattle.std.specs.Option.{option_map};
 ghost use Rattle.ir.specs.declared.item.Item.TheVariants.{Plain};
 ghost use Rattle.base.specs.Ops.{number_of};
 ghost use Rattle.lexer.specs.Names.{name_of};
-ghost use Rattle.lexer.specs.declared.token.Kind.TheVariants.{Integer, Logical};
-ghost use Rattle.parser.specs.Entries.{entry_of};
+ghost use Rattle.parser.specs.declared.value_type.ValueType.TheVariants.{Integer, Logical};
+ghost use Rattle.parser.specs.Nodes.{node_of};
 ghost use Rattle.ir.specs.Instrs.{ins};
 ghost use Rattle.ir.specs.Lists.{op_instr};
 ghost use Rattle.sema.specs.Tables.{row_of};
@@ -19,10 +19,10 @@ use base::instr::Instr;
 use base::op::Op;
 use ir::item::Item;
 use lexer::name::Name;
-use lexer::token::Kind;
 use parser::node::{Node, Operator};
+use parser::value_type::ValueType;
 
-/// What an entry of the syntax list becomes: at most two items of the typed list.
+/// What a node of the syntax list becomes: at most two items of the typed list.
 #[derive(Clone, Copy, PartialEq, Eq, Debug)]
 pub enum Emission {
     Nothing,
@@ -30,7 +30,8 @@ pub enum Emission {
     Two(Item, Item),
 }
 
-// The first cell of a name and how many it has. They lie below 4,096, as `Narrow` says, only after the stage of sizes.
+// The first cell of a name and the number of its cells. They lie below 4,096 only after the stage of sizes; `Narrow`
+// says so.
 fn spot(table: &NameTable, name: Name) -> (u16, u16)
     requires { Narrow (table_as table.now) }
     ensures cell { result.0 ≡ (row_of (table_as table.now) (name_of name)).cell }
@@ -64,13 +65,13 @@ fn operations(operator: Operator) -> (Op, Op, u16)
 }
 
 // The instruction of an operator, by the type of its left side.
-fn operation(operator: Operator, kind: Kind) -> Instr
-    ensures { result ≡ op_instr (op_of operator kind) }
+fn operation(operator: Operator, value_type: ValueType) -> Instr
+    ensures { result ≡ op_instr (op_of operator value_type) }
 {
     let (integer, logical, a) = operations(operator);
-    match kind {
-        Kind::Integer => Instr::new(integer, a, 0),
-        Kind::Logical => Instr::new(logical, a, 0),
+    match value_type {
+        ValueType::Integer => Instr::new(integer, a, 0),
+        ValueType::Logical => Instr::new(logical, a, 0),
     }
 }
 
@@ -81,10 +82,10 @@ fn plain(op: Op, a: u16, b: u16) -> Emission
     Emission::One(Item::Plain(Instr::new(op, a, b)))
 }
 
-// What an entry that names something becomes; none for another entry.
+// What a node that names something becomes; none for another node.
 fn naming(table: &NameTable, node: Node) -> Option<Emission>
     requires { Narrow (table_as table.now) }
-    ensures { option_map items_of result ≡ emits_name (table_as table.now) (entry_of node) }
+    ensures { option_map items_of result ≡ emits_name (table_as table.now) (node_of node) }
 {
     match node {
         Node::Load(name, _) | Node::Fetch(name, _) => Some(plain(Op::Load, spot(table, name).0, 0)),
@@ -115,13 +116,15 @@ fn naming(table: &NameTable, node: Node) -> Option<Emission>
     }
 }
 
-// What an entry that computes becomes; none for another entry.
-fn computing(kind: Kind, node: Node) -> Option<Emission>
-    ensures { option_map items_of result ≡ emits_step kind (entry_of node) }
+// What a node that computes becomes; none for another node.
+fn computing(value_type: ValueType, node: Node) -> Option<Emission>
+    ensures { option_map items_of result ≡ emits_step value_type (node_of node) }
 {
     match node {
         Node::Number(value, _) => Some(plain(Op::Lit, value, 0)),
-        Node::Binary(operator, _) => Some(Emission::One(Item::Plain(operation(operator, kind)))),
+        Node::Binary(operator, _) => Some(Emission::One(Item::Plain(operation(
+            operator, value_type,
+        )))),
         Node::Negate(_) => Some(plain(Op::Neg, 0, 0)),
         Node::Lnot(_) => Some(plain(Op::Not, 0, 0)),
         Node::Field(a, b, _) => Some(plain(Op::Fld, a, b)),
@@ -133,9 +136,9 @@ fn computing(kind: Kind, node: Node) -> Option<Emission>
     }
 }
 
-// What a marker for control becomes; any other entry becomes nothing.
+// What a marker for control becomes; any other node becomes nothing.
 fn marking(arms: u16, node: Node) -> Emission
-    ensures { items_of result ≡ emits_mark arms (entry_of node) }
+    ensures { items_of result ≡ emits_mark arms (node_of node) }
 {
     match node {
         Node::Test(_) => Emission::One(Item::Test),
@@ -157,13 +160,18 @@ fn marking(arms: u16, node: Node) -> Emission
     }
 }
 
-// What an entry becomes: `kind` is the type of the left operand of two, `arms` the number of arms of the next CASE. The
+// What a node becomes: `value_type` is the type of the left operand of two, `arms` the number of arms of the next CASE. The
 // three parts are those of the definition.
-pub(crate) fn emission_of(table: &NameTable, kind: Kind, arms: u16, node: Node) -> Emission
+pub(crate) fn emission_of(
+    table: &NameTable,
+    value_type: ValueType,
+    arms: u16,
+    node: Node,
+) -> Emission
     requires { Narrow (table_as table.now) }
-    ensures { items_of result ≡ emits (table_as table.now) kind arms (entry_of node) }
+    ensures { items_of result ≡ emits (table_as table.now) value_type arms (node_of node) }
 {
     naming(table, node)
-        .or_else(|| computing(kind, node))
+        .or_else(|| computing(value_type, node))
         .unwrap_or_else(|| marking(arms, node))
 }

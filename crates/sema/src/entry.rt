@@ -1,11 +1,11 @@
 // An entry of the table of names.
 ghost use Rattle.std.specs.Prelude.{◌≡◌, ◌≤◌};
 ghost use Rattle.lexer.specs.Names.{name_of};
-ghost use Rattle.sema.specs.Entered.{row_as, completed, cells_of};
+ghost use Rattle.sema.specs.Entered.{row_as, with_bound, cells_of};
 
 use lexer::name::Name;
 use lexer::search::Named;
-use lexer::token::Kind;
+use parser::value_type::ValueType;
 
 /// What a name stands for.
 #[derive(Clone, Copy, PartialEq, Eq, Debug)]
@@ -21,7 +21,7 @@ pub enum Sort {
 pub struct NameEntry {
     pub(crate) name: Name,
     /// Its type.
-    pub kind: Kind,
+    pub value_type: ValueType,
     /// What it stands for.
     pub sort: Sort,
     /// The first of its cells.
@@ -38,8 +38,8 @@ impl Named for NameEntry {
     }
 }
 
-// The entry that stands for a name that is not declared. A table that is not full holds it where no name was entered yet.
-// By hand: a derive gives no contract.
+// The entry that is taken for a name that is not declared. A table that is not full holds it wherever no name was
+// entered yet. It is written by hand, since a derive gives no contract.
 impl Default for NameEntry {
     ghost use Rattle.std.specs.Prelude.{◌≡◌};
     ghost use Rattle.sema.specs.Tables.{nothing};
@@ -50,7 +50,7 @@ impl Default for NameEntry {
     fn default() -> NameEntry {
         NameEntry {
             name: Name::EMPTY,
-            kind: Kind::Integer,
+            value_type: ValueType::Integer,
             sort: Sort::Simple,
             cell: 0,
             cells: 0,
@@ -61,7 +61,7 @@ impl Default for NameEntry {
 impl NameEntry {
     // Completes the entry of a name whose high bound was read, if it has one, and answers how many cells it takes.
     pub(crate) fn complete(&mut self, high: Option<u16>) -> u32
-        ensures row { row_as self.new ≡ completed (row_as self.old) high }
+        ensures row { row_as self.new ≡ with_bound (row_as self.old) high }
         ensures cells { result ≡ cells_of high }
         ensures bound { result ≤ 65536 }
     {
@@ -73,7 +73,7 @@ impl NameEntry {
             Some(h) => {
                 self.sort = Sort::Array;
                 self.cells = h as u32 + 1;
-                h as u32 + 1
+                self.cells
             }
         }
     }

@@ -27,7 +27,7 @@ pub enum CheckFault {
     /// 10: an array without a subscript or as the variable of a FOR, or a simple name with a subscript.
     #[error("a subscript is missing or unwanted")]
     Subscript(usize),
-    /// 11: an operand or a variable has not the type that is wanted.
+    /// 11: an operand or a variable does not have the type that is wanted.
     #[error("the types do not agree")]
     Mistyped(usize),
     /// 12: a field of no bits, of 16 or past bit 15; a shift by over 15; a low bound that is not 0.
@@ -38,7 +38,7 @@ pub enum CheckFault {
     TooManyCells(usize),
 }
 
-// By hand: a derive gives no contract.
+// Written by hand, since a derive gives no contract.
 impl From<GrammarFault> for CheckFault {
     ghost from_gives = { λ e r. r ≡ Grammar e };
 
@@ -64,16 +64,17 @@ impl From<CheckFault> for Refusal {
     }
 }
 
-// Of the faults of a stage one decides: the one at the smallest place, and of several there the one of the lowest number.
+// One of the faults of a stage decides: the one at the smallest place, and of several there the one with the lowest
+// number.
 
-// The fault, where the test does not hold.
+// The fault, if the test fails.
 pub(crate) fn unless(good: bool, fault: CheckFault) -> Option<CheckFault>
     ensures { option_map refusal_of result ≡ cond good None (Some (refusal_of fault)) }
 {
     (!good).then_some(fault)
 }
 
-// The fault that decides of those found so far, of which the new one may be one.
+// The fault that decides: the one that decided so far, or the new one, if there is one.
 pub(crate) fn soonest(best: Option<CheckFault>, more: Option<CheckFault>) -> Option<CheckFault>
     ensures { option_map refusal_of result ≡ soonest_of (option_map refusal_of best) (option_map refusal_of more) }
 {

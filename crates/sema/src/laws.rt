@@ -4,8 +4,8 @@ ghost use Rattle.sema.specs.Rules.{AdmitsExactly};
 ghost use Rattle.sema.specs.Deciding.{LeastDecides};
 ghost use Rattle.sema.specs.Verdicts.{FaultsStand, RefusedExactly};
 
-/// Over the list of a program the stages find what they find on its tree, and the typed list is that of the typed tree. The
-/// names of any list are at most 64, no two alike, and their cells do not overlap.
+/// Each stage finds the same in the list of a program as in its tree, and the typed list is that of the typed tree.
+/// Any list has at most 64 names, no two of them are alike, and their cells do not overlap.
 pub fn check_stands()
     ensures { Laws }
 {}
@@ -15,7 +15,8 @@ pub fn rules_stand()
     ensures { AdmitsExactly }
 {}
 
-/// Of the faults of a stage one decides: the one at the smallest place, and of several there the one of the lowest number.
+/// One of the faults of a stage decides: the one at the smallest place, and of several there the one with the lowest
+/// number.
 pub fn least_stands()
     ensures { LeastDecides }
 {}
@@ -25,7 +26,8 @@ pub fn faults_stand()
     ensures { FaultsStand }
 {}
 
-/// A source whose tokens are a program is refused by the fault that decides in it, and accepted exactly where there is none.
+/// A source whose tokens are a program is refused by the fault that decides in it, and it is accepted exactly where
+/// it has no fault.
 pub fn refused_exactly()
     ensures { RefusedExactly }
 {}

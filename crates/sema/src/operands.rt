@@ -1,32 +1,33 @@
 // The types of the operands that wait for their operator.
 ghost use Rattle.std.specs.Prelude.{◌≡◌, ◌+◌, ◌<◌, ◌≤◌, [], length, IfOk, slice_index_or};
 ghost use Rattle.std.specs.Option.{option_map};
-ghost use Rattle.lexer.specs.declared.token.Kind.TheVariants.{Integer};
+ghost use Rattle.parser.specs.declared.value_type.ValueType.TheVariants.{Integer};
+ghost use Rattle.base.specs.Limits.{most_nodes};
 ghost use Rattle.sema.specs.Faults.{refusal_of};
 ghost use Rattle.sema.specs.Types.{clash as clash_of, after};
 
 use crate::fault::{CheckFault, unless};
-use crate::rule::{Rule, agree, joined};
-use crate::workspace::ENTRIES;
+use crate::rule::{Rule, agree, operator_type};
+use base::limits::MOST_NODES;
 use base::reserved::Reserved;
-use lexer::token::Kind;
+use parser::value_type::ValueType;
 use std::alloc::{AllocError, Global};
 use std::marker::Model;
 
 // A stack of types: the type of the last operand is on top.
 #[derive(Drop)]
 pub(crate) struct Operands {
-    kinds: Reserved<Kind, ENTRIES>,
+    types: Reserved<ValueType, MOST_NODES>,
 }
 
-// Contracts see the last one first.
+// Contracts see the list of the types, with the last one first.
 impl Model for Operands {
     ghost use Rattle.std.specs.Prelude.{List, reverse};
-    ghost use Rattle.lexer.specs.declared.token.Kind.{Kind};
+    ghost use Rattle.parser.specs.declared.value_type.ValueType.{ValueType};
 
-    ghost Value = { List Kind };
+    ghost Value = { List ValueType };
 
-    ghost view = { λ s. reverse s.kinds };
+    ghost view = { λ s. reverse s.types };
 }
 
 impl Operands {
@@ -34,21 +35,21 @@ impl Operands {
         ensures { IfOk result (λ s. s ≡ []) }
     {
         Ok(Operands {
-            kinds: Reserved::new(heap)?,
+            types: Reserved::new(heap)?,
         })
     }
 
     pub(crate) fn clear(&mut self)
         ensures { self.new ≡ [] }
     {
-        self.kinds.clear();
+        self.types.clear();
     }
 
     // The type of the k-th operand, counted from the last. In the list of a program there is one wherever one is taken.
-    pub(crate) fn operand(&self, k: usize) -> Kind
+    pub(crate) fn operand(&self, k: usize) -> ValueType
         ensures { result ≡ slice_index_or self.now k Integer }
     {
-        self.kinds.peek(k).unwrap_or(Kind::Integer)
+        self.types.peek(k).unwrap_or(ValueType::Integer)
     }
 
     // The fault 11, where the operands break the rule.
@@ -57,46 +58,49 @@ impl Operands {
     {
         let top = self.operand(0);
         match rule {
-            Rule::Joins(operator, place) => unless(
+            Rule::Joins(operator, offset) => unless(
                 agree(operator, self.operand(1), top),
-                CheckFault::Mistyped(place),
+                CheckFault::Mistyped(offset),
             ),
-            Rule::Keeps(want, place) | Rule::Takes(want, place) => unless(
+            Rule::Keeps(want, offset) | Rule::Takes(want, offset) => unless(
                 top == want,
-                CheckFault::Mistyped(place),
+                CheckFault::Mistyped(offset),
             ),
-            Rule::Picks(_, place) => unless(top == Kind::Integer, CheckFault::Mistyped(place)),
-            Rule::Starts(variable, place) => unless(
-                variable == Kind::Integer && top == Kind::Integer,
-                CheckFault::Mistyped(place),
+            Rule::Picks(_, offset) => unless(
+                top == ValueType::Integer,
+                CheckFault::Mistyped(offset),
+            ),
+            Rule::Starts(variable, offset) => unless(
+                variable == ValueType::Integer && top == ValueType::Integer,
+                CheckFault::Mistyped(offset),
             ),
             _ => None,
         }
     }
 
-    // Changes the operands as an entry of this rule does.
+    // Changes the operands as a node of this rule does.
     pub(crate) fn follow(&mut self, rule: Rule)
-        requires { length self.old < ENTRIES }
+        requires { length self.old < most_nodes }
         ensures tops { self.new ≡ after rule self.old }
         ensures len { length self.new ≤ length self.old + 1 }
     {
         match rule {
             Rule::Idle | Rule::Keeps(_, _) => {}
-            Rule::Gives(kind) => {
-                let _ = self.kinds.push(kind);
+            Rule::Gives(value_type) => {
+                let _ = self.types.push(value_type);
             }
             Rule::Joins(operator, _) => {
                 let left = self.operand(1);
-                let _ = self.kinds.pop();
-                let _ = self.kinds.pop();
-                let _ = self.kinds.push(joined(operator, left));
+                let _ = self.types.pop();
+                let _ = self.types.pop();
+                let _ = self.types.push(operator_type(operator, left));
             }
             Rule::Takes(_, _) | Rule::Starts(_, _) => {
-                let _ = self.kinds.pop();
+                let _ = self.types.pop();
             }
-            Rule::Picks(kind, _) | Rule::Turns(kind) => {
-                let _ = self.kinds.pop();
-                let _ = self.kinds.push(kind);
+            Rule::Picks(value_type, _) | Rule::Turns(value_type) => {
+                let _ = self.types.pop();
+                let _ = self.types.push(value_type);
             }
         }
     }

@@ -1,41 +1,41 @@
 // The rules of types.
 ghost use Rattle.std.specs.Prelude.{◌≡◌};
 ghost use Rattle.lexer.specs.Names.{name_of};
-ghost use Rattle.parser.specs.Entries.{entry_of};
+ghost use Rattle.parser.specs.Nodes.{node_of};
 ghost use Rattle.sema.specs.Tables.{row_of};
 ghost use Rattle.sema.specs.Tabled.{table_as};
-ghost use Rattle.sema.specs.Types.{joined as joined_of, takes_kind, agree as agree_of, rule_of};
+ghost use Rattle.sema.specs.Types.{operator_type as operator_type_of, takes_type, agree as agree_of, rule_of};
 
 use crate::table::NameTable;
 use lexer::name::Name;
-use lexer::token::Kind;
 use parser::node::{Node, Operator};
+use parser::value_type::ValueType;
 
-/// What an entry of the syntax list asks of the types of the operands before it, and what it makes of them. A `usize` is the
-/// place of refusal 11 where the rule is broken.
+/// What a node of the syntax list requires of the types of the operands before it, and how it changes them. A
+/// `usize` is the place of refusal 11, for a node that breaks the rule.
 #[derive(Clone, Copy, PartialEq, Eq, Debug)]
 pub enum Rule {
     /// Leaves the operands as they are.
     Idle,
     /// Adds an operand of this type.
-    Gives(Kind),
+    Gives(ValueType),
     /// The last two operands, which have to be of one type that the operator takes, become one.
     Joins(Operator, usize),
     /// The last operand has to be of this type, and stays.
-    Keeps(Kind, usize),
+    Keeps(ValueType, usize),
     /// The last operand has to be of this type, and is taken away.
-    Takes(Kind, usize),
+    Takes(ValueType, usize),
     /// The last operand, a subscript, has to be INTEGER, and becomes one of this type.
-    Picks(Kind, usize),
+    Picks(ValueType, usize),
     /// The last operand becomes one of this type, whatever its own is.
-    Turns(Kind),
+    Turns(ValueType),
     /// The last operand, the first value of a FOR whose variable has this type, is taken away. Both have to be INTEGER.
-    Starts(Kind, usize),
+    Starts(ValueType, usize),
 }
 
-// The type of an operator: LOGICAL for a relation, that of its left side for any other.
-pub(crate) fn joined(operator: Operator, left: Kind) -> Kind
-    ensures { result ≡ joined_of operator left }
+// The type of an operator: LOGICAL for a relation, and the type of its left side for any other.
+pub(crate) fn operator_type(operator: Operator, left: ValueType) -> ValueType
+    ensures { result ≡ operator_type_of operator left }
 {
     match operator {
         Operator::Equal
@@ -43,59 +43,59 @@ pub(crate) fn joined(operator: Operator, left: Kind) -> Kind
         | Operator::Less
         | Operator::AtMost
         | Operator::Greater
-        | Operator::AtLeast => Kind::Logical,
+        | Operator::AtLeast => ValueType::Logical,
         _ => left,
     }
 }
 
 // Whether an operator takes operands of this type: LAND, XOR and LOR take LOGICALs only.
-fn takes_kind(operator: Operator, kind: Kind) -> bool
-    ensures { result ≡ takes_kind operator kind }
+fn takes_type(operator: Operator, value_type: ValueType) -> bool
+    ensures { result ≡ takes_type operator value_type }
 {
     match operator {
-        Operator::Land | Operator::Xor | Operator::Lor => kind == Kind::Logical,
+        Operator::Land | Operator::Xor | Operator::Lor => value_type == ValueType::Logical,
         _ => true,
     }
 }
 
-// Whether an operator takes these two types, which have to be one.
-pub(crate) fn agree(operator: Operator, left: Kind, right: Kind) -> bool
+// Whether an operator takes these two types, which have to be the same.
+pub(crate) fn agree(operator: Operator, left: ValueType, right: ValueType) -> bool
     ensures { result ≡ agree_of operator left right }
 {
-    left == right && takes_kind(operator, left)
+    left == right && takes_type(operator, left)
 }
 
-// The type of a name; INTEGER where it is not declared.
-fn kind_of(table: &NameTable, name: Name) -> Kind
-    ensures { result ≡ (row_of (table_as table.now) (name_of name)).kind }
+// The type of a name; INTEGER if it is not declared.
+fn type_of(table: &NameTable, name: Name) -> ValueType
+    ensures { result ≡ (row_of (table_as table.now) (name_of name)).value_type }
 {
-    table.entry(&name).kind
+    table.entry(&name).value_type
 }
 
-// The rule of an entry.
+// The rule of a node.
 pub(crate) fn rule_of(table: &NameTable, node: Node) -> Rule
-    ensures { result ≡ rule_of (table_as table.now) (entry_of node) }
+    ensures { result ≡ rule_of (table_as table.now) (node_of node) }
 {
     match node {
-        Node::Number(_, kind) => Rule::Gives(kind),
-        Node::Load(name, _) => Rule::Gives(kind_of(table, name)),
-        Node::Index(name, _, paren) => Rule::Picks(kind_of(table, name), paren),
-        Node::Binary(operator, place) => Rule::Joins(operator, place),
-        Node::Negate(place) => Rule::Keeps(Kind::Integer, place),
-        Node::Lnot(place) => Rule::Keeps(Kind::Logical, place),
-        Node::Convert(kind) => Rule::Turns(kind),
-        Node::Store(name, _, place) | Node::StoreAt(name, _, place) => Rule::Takes(
-            kind_of(table, name),
-            place,
+        Node::Number(_, value_type) => Rule::Gives(value_type),
+        Node::Load(name, _) => Rule::Gives(type_of(table, name)),
+        Node::Index(name, _, paren) => Rule::Picks(type_of(table, name), paren),
+        Node::Binary(operator, offset) => Rule::Joins(operator, offset),
+        Node::Negate(offset) => Rule::Keeps(ValueType::Integer, offset),
+        Node::Lnot(offset) => Rule::Keeps(ValueType::Logical, offset),
+        Node::Convert(value_type) => Rule::Turns(value_type),
+        Node::Store(name, _, offset) | Node::StoreAt(name, _, offset) => Rule::Takes(
+            type_of(table, name),
+            offset,
         ),
-        Node::Checked(_, _, place) | Node::FetchAt(_, _, place) => Rule::Takes(
-            Kind::Integer,
-            place,
+        Node::Checked(_, _, offset) | Node::FetchAt(_, _, offset) => Rule::Takes(
+            ValueType::Integer,
+            offset,
         ),
-        Node::Step(place) | Node::Case(place) => Rule::Takes(Kind::Integer, place),
-        Node::For(_, _, place) => Rule::Takes(Kind::Integer, place),
-        Node::Test(place) => Rule::Takes(Kind::Logical, place),
-        Node::First(name, _, place) => Rule::Starts(kind_of(table, name), place),
+        Node::Step(offset) | Node::Case(offset) => Rule::Takes(ValueType::Integer, offset),
+        Node::For(_, _, offset) => Rule::Takes(ValueType::Integer, offset),
+        Node::Test(offset) => Rule::Takes(ValueType::Logical, offset),
+        Node::First(name, _, offset) => Rule::Starts(type_of(table, name), offset),
         _ => Rule::Idle,
     }
 }

@@ -1,6 +1,7 @@
-// The stages after the grammar, and the memory that they share: each reads what those before it have left.
+// The stages after the grammar, and the memory that they share. Each stage reads what the stages before it have left.
 ghost use Rattle.std.specs.Prelude.{◌≡◌, ◌≤◌, [], length, IfOk};
-ghost use Rattle.parser.specs.Entries.{entries as entries_of};
+ghost use Rattle.base.specs.Limits.{most_nodes};
+ghost use Rattle.parser.specs.Nodes.{node_list as nodes_in};
 ghost use Rattle.sema.specs.Faults.{fault_in};
 ghost use Rattle.sema.specs.Tables.{empty};
 ghost use Rattle.sema.specs.Names.{table_from};
@@ -14,7 +15,7 @@ use crate::operands::Operands;
 use crate::sizes::sizes;
 use crate::table::NameTable;
 use crate::types::types;
-use crate::workspace::{ENTRIES, ITEMS};
+use base::limits::MOST_ITEMS;
 use base::reserved::Reserved;
 use ir::item::Item;
 use parser::node::Node;
@@ -26,7 +27,7 @@ pub(crate) struct Stages {
     pub(crate) operands: Operands,
     pub(crate) arms: Arms,
     // The typed list.
-    pub(crate) items: Reserved<Item, ITEMS>,
+    pub(crate) items: Reserved<Item, MOST_ITEMS>,
 }
 
 impl Stages {
@@ -43,9 +44,9 @@ impl Stages {
 
     // Runs the three stages, each over the whole list before the next. Refuses with 7 to 13.
     pub(crate) fn judge(&mut self, nodes: &[Node]) -> Result<(), CheckFault>
-        requires { length nodes.now ≤ ENTRIES }
-        ensures fault { fault_in result ≡ verdict (entries_of nodes.now) }
-        ensures table { table_as self.new.table ≡ table_from empty (entries_of nodes.now) }
+        requires { length nodes.now ≤ most_nodes }
+        ensures fault { fault_in result ≡ verdict (nodes_in nodes.now) }
+        ensures table { table_as self.new.table ≡ table_from empty (nodes_in nodes.now) }
         ensures arms { self.new.arms ≡ self.old.arms }
         ensures items { self.new.items ≡ self.old.items }
     {

@@ -4,7 +4,7 @@ use Rattle.arith.specs.declared.stop.Stop.{Stop}
 use Rattle.ir.specs.Trees.{Stmt, assign, fill, deposit, deposit_at, when, either, while, repeat, for, case, Body, end, then, Arms, last, arm}
 use Rattle.semantics.specs.Effects.{Store, Write, leave, Effect, effect, cut, writes_of, M, before, onward, bind, meets, loop, until}
 use Rattle.semantics.specs.Meaning.{exec_s, exec, choice}
-use Rattle.semantics.specs.Bounds.{Bounded}
+use Rattle.semantics.specs.Bounds.{BoundsHold}
 use Rattle.semantics.proofs.Stores.{leave_append}
 
 -- y' is y, or goes on where y was cut
@@ -98,5 +98,5 @@ stays_ended : {y y' : Effect (Unit {0})} → Below y y' → (ws : List Write) (o
 stays_ended same ws o q = q
 stays_ended (longer z) ws o q = absurd (let w : ◌≡◌ {A = ℕ} 0 1 = cc in omega arith)
 
-pub bounded : Bounded
+pub bounded : BoundsHold
 bounded = record { further = λ b σ k j l. goes_further (bounds b k j l σ); settled = λ b σ k j l. stays_ended (bounds b k j l σ) }

@@ -3,9 +3,9 @@ use Rattle.std.proofs.Common.{◌≡◌, ℕ, zero, suc, ◌+◌, ◌<◌, ◌�
 use Rattle.arith.specs.declared.stop.Stop.{Stop}
 use Rattle.arith.specs.Integers.{sum, subscript}
 use Rattle.ir.specs.Trees.{Expr, lit, var, pick, bin, un, Clause, test, and, Cond, only, or, Stmt, assign, fill, deposit, deposit_at, when, either, while, repeat, for, case, Body, end, then, Arms, last, arm}
-use Rattle.semantics.specs.Effects.{Store, Write, put, leave, Effect, effect, cut, writes_of, M, before, onward, bind, ret, meets, loop, until, prim, says, load, store, loaded, element, filled, place, goes_on, stored, advance, effect_of}
+use Rattle.semantics.specs.Effects.{Store, Write, put, leave, Effect, effect, cut, writes_of, M, before, onward, bind, ret, meets, loop, until, prim, says, load, store, load_at, element, put_at, put_element, goes_on, put_or_stop, advance, effect_of}
 use Rattle.semantics.specs.Meaning.{eval, holds_l, holds, exec_s, exec, choice, WithinE, WithinL, WithinC, WithinS, Within, WithinA}
-use Rattle.semantics.specs.Cells.{Below, Confined}
+use Rattle.semantics.specs.Cells.{Below, WritesStayInside}
 use Rattle.semantics.proofs.Indexes.{subscript_below, says_answers}
 
 -- more cells
@@ -107,15 +107,15 @@ module _ (n : ℕ) where
   unfolding prim element
   own_element b m x σ = of (subscript x m)
     where
-      of : (r : Result ℕ Stop) → Owned (effect_of (loaded b r σ))
+      of : (r : Result ℕ Stop) → Owned (effect_of (load_at b r σ))
       of (Ok i) = owned tt
       of (Err e) = owned tt
 
-  own_place : (b m x w : ℕ) → b + m ≤ n → Own (prim (place b m x w))
-  unfolding prim place
+  own_place : (b m x w : ℕ) → b + m ≤ n → Own (prim (put_element b m x w))
+  unfolding prim put_element
   own_place b m x w h σ = of (subscript x m) refl
     where
-      of : (r : Result ℕ Stop) → subscript x m ≡ r → Owned (effect_of (filled b w r))
+      of : (r : Result ℕ Stop) → subscript x m ≡ r → Owned (effect_of (put_at b w r))
       of (Ok j) q = owned (omega (arith, subscript_below x m j q), tt)
       of (Err e) q = owned tt
 
@@ -127,7 +127,7 @@ module _ (n : ℕ) where
   unfolding prim advance
   own_advance c s h σ = of (sum (get_or σ c 0) s)
     where
-      of : (r : Result ℕ Stop) → Owned (effect_of (stored c r))
+      of : (r : Result ℕ Stop) → Owned (effect_of (put_or_stop c r))
       of (Ok w) = owned (h, tt)
       of (Err e) = owned tt
 
@@ -193,5 +193,5 @@ module _ (n : ℕ) where
       let ne : i ≢ c = omega (arith, h.0) in
       kept_others ws h.1 (set σ c w) i l ∙ rw get_or-set_other refl
 
-pub confined : Confined
+pub confined : WritesStayInside
 confined = record { more = λ b n m l h. more_b n m l b h; own = λ b n h k σ. below_of n (own_b n b k h σ); others = kept_others }

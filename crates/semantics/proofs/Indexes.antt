@@ -5,7 +5,7 @@ use Rattle.std.proofs.lemmas.Bool.{ltb-true, and_parts, false≢true}
 use Rattle.arith.specs.declared.stop.Stop.{Stop}
 use Rattle.arith.specs.declared.stop.Stop.TheVariants.{Overflow}
 use Rattle.arith.specs.Stops.{stop}
-use Rattle.arith.specs.Integers.{int, within, below, subscript, chosen}
+use Rattle.arith.specs.Integers.{int, within, below, subscript, case_index}
 use Rattle.semantics.specs.Effects.{Store, Write, Effect, effect, cut, prim, says}
 
 tested : (i n : ℕ) → within i n ≡ true → i < n
@@ -31,8 +31,8 @@ pub subscript_below : (x n j : ℕ) → subscript x n ≡ Ok j → j < n
 unfolding subscript
 subscript_below x n j q = answers 3 x n j q
 
-pub chosen_below : (x n j : ℕ) → chosen x n ≡ Ok j → j < n
-unfolding chosen
+pub chosen_below : (x n j : ℕ) → case_index x n ≡ Ok j → j < n
+unfolding case_index
 chosen_below x n j q = answers 4 x n j q
 
 abbrev outcome : {A : Type 0} → Effect A → Result A Stop

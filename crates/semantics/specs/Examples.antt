@@ -6,7 +6,7 @@ use Rattle.ir.specs.Trees.{lit, var, bin, add, sub, mul, div, cmp, test, and, on
 use Rattle.semantics.specs.Effects.{put, effect, cut}
 use Rattle.semantics.specs.Meaning.{exec}
 
--- one statement
+-- A body of one statement.
 abbrev pub one : Stmt → Body
 one s = then s end
 
@@ -20,7 +20,8 @@ counting first limit = one (for 0 (lit first) (lit 1) (lit limit) end)
 
 -- IF J <> 0 AND 10 / J > 2 THEN J := 1
 abbrev pub guarded : Body
-guarded = one (when (only (and (bin (cmp Unequal) (var 0) (lit 0)) (test (bin (cmp Greater) (bin div (lit 10) (var 0)) (lit 2))))) (one (assign 0 (lit 1))))
+guarded =
+    one (when (only (and (bin (cmp Unequal) (var 0) (lit 0)) (test (bin (cmp Greater) (bin div (lit 10) (var 0)) (lit 2))))) (one (assign 0 (lit 1))))
 
 -- IF J = 0 OR 10 / J > 2 THEN J := 1 ELSE J := 2
 abbrev pub parted : Body
@@ -47,6 +48,7 @@ filling = one (for 0 (lit 1) (var 0) (bin add (var 0) (lit 3)) (one (fill 1 4 (v
 abbrev pub choosing : Body
 choosing = one (case (var 0) (arm (one (assign 0 (lit 5))) (last end)))
 
+-- What these sources write and how they end.
 pub record Examples : Type 0 where
   pub assigns : exec plain 0 (9 ∷ []) ≡ effect (put 0 1 ∷ []) (Ok tt)
   -- no turn, but the first value is written
@@ -56,10 +58,10 @@ pub record Examples : Type 0 where
   -- with no turn allowed, the bound is met when one would begin
   pub cuts : exec (counting 32767 32767) 0 (9 ∷ []) ≡ cut (put 0 32767 ∷ [])
   pub counts : exec (counting 1 2) 2 (9 ∷ []) ≡ effect (put 0 1 ∷ put 0 2 ∷ put 0 3 ∷ []) (Ok tt)
-  -- what stands behind a false expression is not worked out
+  -- what follows a false expression is not worked out
   pub skips : exec guarded 0 (0 ∷ []) ≡ effect [] (Ok tt)
   pub both : exec guarded 0 (3 ∷ []) ≡ effect (put 0 1 ∷ []) (Ok tt)
-  -- nor what stands behind a true clause
+  -- what follows a true clause is not worked out
   pub passes : exec parted 0 (0 ∷ []) ≡ effect (put 0 1 ∷ []) (Ok tt)
   pub behind : exec parted 0 (3 ∷ []) ≡ effect (put 0 1 ∷ []) (Ok tt)
   pub neither : exec parted 0 (5 ∷ []) ≡ effect (put 0 2 ∷ []) (Ok tt)

@@ -4,7 +4,8 @@ ghost use Rattle.std.proofs.Common.{◌∙◌};
 ghost use Rattle.base.specs.Cells.{short_pairs_of, small_pairs_of};
 ghost use Rattle.base.specs.Stores.{pair, pairs_of, past_pairs};
 
-use super::{MOST, Store, StoreFault, within};
+use super::{Store, StoreFault, within};
+use crate::limits::MOST_WORDS;
 
 /// The store over bytes that were lent, two to a word, the high byte first. An odd last byte, and bytes past the first
 /// 65,535 words, are not used.
@@ -35,7 +36,8 @@ fn put(cells: &mut [u8], i: usize, w: u16)
 impl<'a> Store for Bytes<'a> {
     ghost words = { λ s. pairs_of s.cells.now };
 
-    ghost keeps = { λ s t. (t.cells.ghost_name ≡ s.cells.ghost_name) × (past_pairs t.cells.now ≡ past_pairs s.cells.now) };
+    ghost keeps = { λ s t. (t.cells.ghost_name ≡ s.cells.ghost_name)
+        × (past_pairs t.cells.now ≡ past_pairs s.cells.now) };
 
     ghost short = { λ s. short_pairs_of s.cells.now };
 
@@ -47,7 +49,7 @@ impl<'a> Store for Bytes<'a> {
 
     #[inline(always)]
     fn size(&self) -> u16 {
-        MOST.min(self.cells.len() / 2) as u16
+        MOST_WORDS.min(self.cells.len() / 2) as u16
     }
 
     #[inline(always)]

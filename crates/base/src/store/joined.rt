@@ -51,7 +51,8 @@ impl<'a, 'b, X: Store, Y: Store> Store for Joined<'a, 'b, X, Y> {
 
     ghost short = { λ s. short_joined_of (X.Store.words s.first.now) (Y.Store.words s.second.now) };
 
-    ghost small = { λ s k. small_joined_of (X.Store.words s.first.now) (Y.Store.words s.second.now) (X.Store.small s.first.now) (Y.Store.small s.second.now) k };
+    ghost small = { λ s k. small_joined_of (X.Store.words s.first.now) (Y.Store.words s.second.now)
+        (X.Store.small s.first.now) (Y.Store.small s.second.now) k };
 
     ghost stays = { λ s. (refl, refl, refl, X.Store.stays s.first.now, Y.Store.stays s.second.now) };
 

@@ -1,7 +1,7 @@
 // The readers of conditions.
 ghost use Rattle.std.specs.Prelude.{[], ◌∷◌};
 ghost use Rattle.parser.specs.Machine.{test as a_test, clauses as some_clauses};
-ghost use Rattle.parser.specs.Readers.{Done};
+ghost use Rattle.parser.specs.Readers.{ReadsGoals};
 
 use crate::fault::GrammarFault;
 use crate::lexeme::Strength;
@@ -13,7 +13,7 @@ use lexer::token::Keyword;
 impl Reader<'_, '_> {
     // clause {OR clause}, each of them expr {AND expr}
     pub(crate) fn condition(&mut self, levels: u8) -> Result<(), GrammarFault>
-        ensures { Done 0 0 (a_test levels ∷ some_clauses levels ∷ []) self.old self.new result }
+        ensures { ReadsGoals 0 0 (a_test levels ∷ some_clauses levels ∷ []) self.old self.new result }
     {
         self.test(levels)?;
         loop {
@@ -32,11 +32,11 @@ impl Reader<'_, '_> {
 
     // One expression of a condition.
     fn test(&mut self, levels: u8) -> Result<(), GrammarFault>
-        ensures { Done 0 0 (a_test levels ∷ []) self.old self.new result }
+        ensures { ReadsGoals 0 0 (a_test levels ∷ []) self.old self.new result }
     {
-        let place = self.ahead.place;
+        let offset = self.ahead.offset;
         self.chain(Strength::Lor, levels)?;
-        put(self.out, Node::Test(place));
+        put(self.out, Node::Test(offset));
         Ok(())
     }
 }

@@ -2,7 +2,7 @@
 ghost use Rattle.std.specs.Prelude.{[], ◌∷◌};
 ghost use Rattle.lexer.specs.Names.{name_of};
 ghost use Rattle.parser.specs.Machine.{wants, right, fields, relation as a_relation, lead as a_lead, compare as a_compare, primary as a_primary, named as a_named, paren as a_paren};
-ghost use Rattle.parser.specs.Readers.{Ready, Done, FirstDone};
+ghost use Rattle.parser.specs.Readers.{Ready, ReadsGoals, ReadsFirst};
 
 use crate::fault::GrammarFault;
 use crate::lexeme::{PlacedName, Strength};
@@ -15,14 +15,14 @@ impl Reader<'_, '_> {
     // Operands joined by operators of strength `s`, which group to the left.
     #[cycle(expressions)]
     pub(crate) fn chain(&mut self, s: Strength, levels: u8) -> Result<(), GrammarFault>
-        ensures { Done 0 1 (wants s levels) self.old self.new result }
+        ensures { ReadsGoals 0 1 (wants s levels) self.old self.new result }
     {
         self.first(s, levels)?;
         while let Some(o) = self.ahead.operator(s) {
-            let place = self.ahead.place;
+            let offset = self.ahead.offset;
             self.advance();
             self.operand(s, levels)?;
-            put(self.out, Node::Binary(o, place));
+            put(self.out, Node::Binary(o, offset));
         }
         Ok(())
     }
@@ -30,7 +30,7 @@ impl Reader<'_, '_> {
     // The leftmost operand of operators of strength `s`.
     #[cycle(expressions)]
     fn first(&mut self, s: Strength, levels: u8) -> Result<(), GrammarFault>
-        ensures { FirstDone s levels self.old self.new result }
+        ensures { ReadsFirst s levels self.old self.new result }
     {
         match s {
             Strength::Sum => self.lead(levels),
@@ -41,7 +41,7 @@ impl Reader<'_, '_> {
     // The operand right of an operator of strength `s`.
     #[cycle(expressions)]
     fn operand(&mut self, s: Strength, levels: u8) -> Result<(), GrammarFault>
-        ensures { Done 0 1 (right s levels) self.old self.new result }
+        ensures { ReadsGoals 0 1 (right s levels) self.old self.new result }
     {
         match s {
             Strength::Lor => self.chain(Strength::Xor, levels),
@@ -56,14 +56,14 @@ impl Reader<'_, '_> {
     // LNOT and what it applies to, or a sum and perhaps another that it is compared with.
     #[cycle(expressions)]
     fn relation(&mut self, levels: u8) -> Result<(), GrammarFault>
-        ensures { Done 0 1 (a_relation levels ∷ []) self.old self.new result }
+        ensures { ReadsGoals 0 1 (a_relation levels ∷ []) self.old self.new result }
     {
         if self.ahead.is_keyword(Keyword::Lnot) {
-            let place = self.ahead.place;
+            let offset = self.ahead.offset;
             let within = self.ahead.opens(levels)?;
             self.advance();
             self.relation(within)?;
-            put(self.out, Node::Lnot(place));
+            put(self.out, Node::Lnot(offset));
             return Ok(());
         }
         self.chain(Strength::Sum, levels)?;
@@ -73,13 +73,13 @@ impl Reader<'_, '_> {
     // Perhaps a relation's operator, and the sum right of it.
     #[cycle(expressions)]
     fn compare(&mut self, levels: u8) -> Result<(), GrammarFault>
-        ensures { Done 0 0 (a_compare levels ∷ []) self.old self.new result }
+        ensures { ReadsGoals 0 0 (a_compare levels ∷ []) self.old self.new result }
     {
         if let Some(o) = self.ahead.operator(Strength::Relation) {
-            let place = self.ahead.place;
+            let offset = self.ahead.offset;
             self.advance();
             self.chain(Strength::Sum, levels)?;
-            put(self.out, Node::Binary(o, place));
+            put(self.out, Node::Binary(o, offset));
         }
         Ok(())
     }
@@ -87,13 +87,13 @@ impl Reader<'_, '_> {
     // The first term of a sum, perhaps with `-` before the whole of it.
     #[cycle(expressions)]
     fn lead(&mut self, levels: u8) -> Result<(), GrammarFault>
-        ensures { Done 0 1 (a_lead levels ∷ []) self.old self.new result }
+        ensures { ReadsGoals 0 1 (a_lead levels ∷ []) self.old self.new result }
     {
         if self.ahead.is_symbol(Symbol::Minus) {
-            let place = self.ahead.place;
+            let offset = self.ahead.offset;
             self.advance();
             self.chain(Strength::Term, levels)?;
-            put(self.out, Node::Negate(place));
+            put(self.out, Node::Negate(offset));
             return Ok(());
         }
         self.chain(Strength::Term, levels)
@@ -102,7 +102,7 @@ impl Reader<'_, '_> {
     // primary {field or & shift}
     #[cycle(expressions)]
     fn factor(&mut self, levels: u8) -> Result<(), GrammarFault>
-        ensures { Done 0 1 (a_primary levels ∷ fields ∷ []) self.old self.new result }
+        ensures { ReadsGoals 0 1 (a_primary levels ∷ fields ∷ []) self.old self.new result }
     {
         self.primary(levels)?;
         self.fields()
@@ -111,17 +111,17 @@ impl Reader<'_, '_> {
     // A number, TRUE or FALSE, a conversion, a name with or without a subscript, or an expression in parentheses.
     #[cycle(expressions)]
     fn primary(&mut self, levels: u8) -> Result<(), GrammarFault>
-        ensures { Done 0 1 (a_primary levels ∷ []) self.old self.new result }
+        ensures { ReadsGoals 0 1 (a_primary levels ∷ []) self.old self.new result }
     {
-        if let Some((v, kind)) = self.ahead.literal() {
+        if let Some((v, value_type)) = self.ahead.literal() {
             self.advance();
-            put(self.out, Node::Number(v, kind));
+            put(self.out, Node::Number(v, value_type));
             return Ok(());
         }
-        if let Some(kind) = self.ahead.kind() {
+        if let Some(value_type) = self.ahead.value_type() {
             self.advance();
             self.paren(levels)?;
-            put(self.out, Node::Convert(kind));
+            put(self.out, Node::Convert(value_type));
             return Ok(());
         }
         if let Some(n) = self.ahead.name() {
@@ -135,22 +135,22 @@ impl Reader<'_, '_> {
     #[cycle(expressions)]
     fn named(&mut self, n: PlacedName, levels: u8) -> Result<(), GrammarFault>
         requires { Ready 2 self.old }
-        ensures { Done 2 1 (a_named (name_of n.name) n.place levels ∷ []) self.old self.new result }
+        ensures { ReadsGoals 2 1 (a_named (name_of n.name) n.offset levels ∷ []) self.old self.new result }
     {
         if self.ahead.is_symbol(Symbol::Open) {
-            let paren = self.ahead.place;
+            let paren = self.ahead.offset;
             self.paren(levels)?;
-            put(self.out, Node::Index(n.name, n.place, paren));
+            put(self.out, Node::Index(n.name, n.offset, paren));
             return Ok(());
         }
-        put(self.out, Node::Load(n.name, n.place));
+        put(self.out, Node::Load(n.name, n.offset));
         Ok(())
     }
 
     // An expression in parentheses, which open a level.
     #[cycle(expressions)]
     pub(crate) fn paren(&mut self, levels: u8) -> Result<(), GrammarFault>
-        ensures { Done 0 2 (a_paren levels ∷ []) self.old self.new result }
+        ensures { ReadsGoals 0 2 (a_paren levels ∷ []) self.old self.new result }
     {
         if !self.ahead.is_symbol(Symbol::Open) {
             return Err(self.ahead.unexpected());

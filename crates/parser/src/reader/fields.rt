@@ -3,7 +3,7 @@ ghost use Rattle.std.specs.Prelude.{[], ◌∷◌};
 ghost use Rattle.lexer.specs.declared.token.Symbol.TheVariants.{Open};
 ghost use Rattle.parser.specs.Machine.{sym, bits, part};
 ghost use Rattle.parser.specs.Machine.{shift as shifted, fields as fielded};
-ghost use Rattle.parser.specs.Readers.{Done};
+ghost use Rattle.parser.specs.Readers.{ReadsGoals};
 
 use crate::fault::GrammarFault;
 use crate::node::Node;
@@ -14,32 +14,32 @@ use lexer::token::Symbol;
 impl Reader<'_, '_> {
     // What follows the `.` of a factor's field.
     fn field(&mut self) -> Result<(), GrammarFault>
-        ensures { Done 0 1 (sym Open ∷ bits part ∷ []) self.old self.new result }
+        ensures { ReadsGoals 0 1 (sym Open ∷ bits part ∷ []) self.old self.new result }
     {
         let field = self.range()?;
         put(
             self.out,
-            Node::Field(field.first, field.second, field.place),
+            Node::Field(field.first, field.second, field.offset),
         );
         Ok(())
     }
 
     // What follows `&`: the kind of a shift, and (d).
     fn shift(&mut self) -> Result<(), GrammarFault>
-        ensures { Done 0 2 (shifted ∷ []) self.old self.new result }
+        ensures { ReadsGoals 0 2 (shifted ∷ []) self.old self.new result }
     {
         let kind = self.ahead.shift().ok_or(self.ahead.unexpected())?;
         self.advance();
         self.symbol(Symbol::Open)?;
-        let (n, place) = self.number()?;
+        let (n, offset) = self.number()?;
         self.symbol(Symbol::Close)?;
-        put(self.out, Node::Shift(kind, n, place));
+        put(self.out, Node::Shift(kind, n, offset));
         Ok(())
     }
 
     // {field or & shift}
     pub(crate) fn fields(&mut self) -> Result<(), GrammarFault>
-        ensures { Done 0 0 (fielded ∷ []) self.old self.new result }
+        ensures { ReadsGoals 0 0 (fielded ∷ []) self.old self.new result }
     {
         loop {
             if self.ahead.is_symbol(Symbol::Dot) {

@@ -3,7 +3,7 @@ ghost use Rattle.std.specs.Prelude.{[], ◌∷◌};
 ghost use Rattle.lexer.specs.Names.{name_of};
 ghost use Rattle.parser.specs.declared.lexeme.Opening.TheVariants.{Block, Conditional, Choice, While, Do};
 ghost use Rattle.parser.specs.Machine.{stmt, block as a_block, otherwise as an_else, arms as some_arms, variable, stepped as a_step, inner as within, turns as the_turns};
-ghost use Rattle.parser.specs.Readers.{Ready, Done, StatementDone};
+ghost use Rattle.parser.specs.Readers.{Ready, ReadsGoals, ReadsStatement};
 
 use crate::fault::GrammarFault;
 use crate::lexeme::{Opening, PlacedName, Strength};
@@ -17,18 +17,18 @@ impl Reader<'_, '_> {
     // alone the proofs of its callers are not found.
     #[cycle(statements)]
     fn statement(&mut self, levels: u8) -> Result<(), GrammarFault>
-        ensures { StatementDone levels self.old self.new result }
+        ensures { ReadsStatement levels self.old self.new result }
     {
         self.begun(levels)
     }
 
     // A statement by its first token.
     #[cycle(statements)]
-    #[tactic(auto, unfolding(crate::specs::Machine::stated))]
+    #[tactic(auto, unfolding(crate::specs::Machine::statement_at))]
     fn begun(&mut self, levels: u8) -> Result<(), GrammarFault>
-        ensures { Done 0 0 (stmt levels ∷ []) self.old self.new result }
+        ensures { ReadsGoals 0 0 (stmt levels ∷ []) self.old self.new result }
     {
-        let place = self.ahead.place;
+        let offset = self.ahead.offset;
         if let Some(n) = self.ahead.name() {
             self.advance();
             return self.target(n, levels);
@@ -38,29 +38,29 @@ impl Reader<'_, '_> {
         };
         let within = self.ahead.opens(levels)?;
         self.advance();
-        self.inner(opening, place, within)
+        self.inner(opening, offset, within)
     }
 
-    // What follows the reserved word at `place`, which has opened a level.
+    // What follows the reserved word at `offset`, which has opened a level.
     #[cycle(statements)]
-    fn inner(&mut self, opening: Opening, place: usize, levels: u8) -> Result<(), GrammarFault>
+    fn inner(&mut self, opening: Opening, offset: usize, levels: u8) -> Result<(), GrammarFault>
         requires { Ready 2 self.old }
-        ensures { Done 2 0 (within opening place levels) self.old self.new result }
+        ensures { ReadsGoals 2 0 (within opening offset levels) self.old self.new result }
     {
         match opening {
             Opening::Block => self.block(levels),
             Opening::Conditional => self.conditional(levels),
-            Opening::Choice => self.choice(place, levels),
+            Opening::Choice => self.choice(offset, levels),
             Opening::While => self.repeat_while(levels),
             Opening::Do => self.repeat_until(levels),
-            Opening::For => self.counted(place, levels),
+            Opening::For => self.counted(offset, levels),
         }
     }
 
     // statement {; statement} END
     #[cycle(statements)]
     pub(crate) fn block(&mut self, levels: u8) -> Result<(), GrammarFault>
-        ensures { Done 0 0 (stmt levels ∷ a_block levels ∷ []) self.old self.new result }
+        ensures { ReadsGoals 0 0 (stmt levels ∷ a_block levels ∷ []) self.old self.new result }
     {
         self.statement(levels)?;
         while self.ahead.is_symbol(Symbol::Semicolon) {
@@ -74,7 +74,7 @@ impl Reader<'_, '_> {
     #[cycle(statements)]
     fn conditional(&mut self, levels: u8) -> Result<(), GrammarFault>
         requires { Ready 2 self.old }
-        ensures { Done 2 0 (within Conditional 0 levels) self.old self.new result }
+        ensures { ReadsGoals 2 0 (within Conditional 0 levels) self.old self.new result }
     {
         put(self.out, Node::If);
         self.condition(levels)?;
@@ -88,7 +88,7 @@ impl Reader<'_, '_> {
     #[cycle(statements)]
     fn otherwise(&mut self, levels: u8) -> Result<(), GrammarFault>
         requires { Ready 1 self.old }
-        ensures { Done 1 0 (an_else levels ∷ []) self.old self.new result }
+        ensures { ReadsGoals 1 0 (an_else levels ∷ []) self.old self.new result }
     {
         if self.ahead.is_keyword(Keyword::Else) {
             self.advance();
@@ -101,14 +101,14 @@ impl Reader<'_, '_> {
         Ok(())
     }
 
-    // After CASE, which stands at `place`.
+    // After CASE, which stands at `offset`.
     #[cycle(statements)]
-    fn choice(&mut self, place: usize, levels: u8) -> Result<(), GrammarFault>
+    fn choice(&mut self, offset: usize, levels: u8) -> Result<(), GrammarFault>
         requires { Ready 2 self.old }
-        ensures { Done 2 0 (within Choice place levels) self.old self.new result }
+        ensures { ReadsGoals 2 0 (within Choice offset levels) self.old self.new result }
     {
         self.chain(Strength::Lor, levels)?;
-        put(self.out, Node::Case(place));
+        put(self.out, Node::Case(offset));
         self.keyword(Keyword::Of)?;
         self.keyword(Keyword::Begin)?;
         put(self.out, Node::Arm);
@@ -118,7 +118,7 @@ impl Reader<'_, '_> {
     // The statements of a CASE, up to its END.
     #[cycle(statements)]
     fn arms(&mut self, levels: u8) -> Result<(), GrammarFault>
-        ensures { Done 0 0 (stmt levels ∷ some_arms levels ∷ []) self.old self.new result }
+        ensures { ReadsGoals 0 0 (stmt levels ∷ some_arms levels ∷ []) self.old self.new result }
     {
         self.statement(levels)?;
         while self.ahead.is_symbol(Symbol::Semicolon) {
@@ -137,7 +137,7 @@ impl Reader<'_, '_> {
     #[cycle(statements)]
     fn repeat_while(&mut self, levels: u8) -> Result<(), GrammarFault>
         requires { Ready 2 self.old }
-        ensures { Done 2 0 (within While 0 levels) self.old self.new result }
+        ensures { ReadsGoals 2 0 (within While 0 levels) self.old self.new result }
     {
         put(self.out, Node::While);
         self.condition(levels)?;
@@ -152,7 +152,7 @@ impl Reader<'_, '_> {
     #[cycle(statements)]
     fn repeat_until(&mut self, levels: u8) -> Result<(), GrammarFault>
         requires { Ready 2 self.old }
-        ensures { Done 2 0 (within Do 0 levels) self.old self.new result }
+        ensures { ReadsGoals 2 0 (within Do 0 levels) self.old self.new result }
     {
         put(self.out, Node::Do);
         self.statement(levels)?;
@@ -163,45 +163,45 @@ impl Reader<'_, '_> {
         Ok(())
     }
 
-    // After FOR, which stands at `place`.
+    // After FOR, which stands at `offset`.
     #[cycle(statements)]
-    fn counted(&mut self, place: usize, levels: u8) -> Result<(), GrammarFault>
+    fn counted(&mut self, offset: usize, levels: u8) -> Result<(), GrammarFault>
         requires { Ready 2 self.old }
-        ensures { Done 2 0 (variable place levels ∷ []) self.old self.new result }
+        ensures { ReadsGoals 2 0 (variable offset levels ∷ []) self.old self.new result }
     {
         let n = self.name()?;
         self.symbol(Symbol::Becomes)?;
         self.chain(Strength::Lor, levels)?;
-        put(self.out, Node::First(n.name, n.place, place));
-        self.stepped(n, place, levels)
+        put(self.out, Node::First(n.name, n.offset, offset));
+        self.stepped(n, offset, levels)
     }
 
     // STEP and its value, or 1; then UNTIL.
     #[cycle(statements)]
-    #[tactic(auto, unfolding(crate::specs::Machine::stepping))]
-    fn stepped(&mut self, n: PlacedName, place: usize, levels: u8) -> Result<(), GrammarFault>
-        ensures { Done 0 0 (a_step (name_of n.name) n.place place levels ∷ []) self.old self.new result }
+    #[tactic(auto, unfolding(crate::specs::Machine::step_at))]
+    fn stepped(&mut self, n: PlacedName, offset: usize, levels: u8) -> Result<(), GrammarFault>
+        ensures { ReadsGoals 0 0 (a_step (name_of n.name) n.offset offset levels ∷ []) self.old self.new result }
     {
         if self.ahead.is_keyword(Keyword::Step) {
             self.advance();
             self.chain(Strength::Lor, levels)?;
-            put(self.out, Node::Step(place));
+            put(self.out, Node::Step(offset));
             self.keyword(Keyword::Until)?;
-            return self.turns(n, place, levels);
+            return self.turns(n, offset, levels);
         }
         self.keyword(Keyword::Until)?;
         put(self.out, Node::One);
-        self.turns(n, place, levels)
+        self.turns(n, offset, levels)
     }
 
     // The limit of a FOR, DO and its statement.
     #[cycle(statements)]
-    #[tactic(auto, unfolding(crate::specs::Machine::limited))]
-    fn turns(&mut self, n: PlacedName, place: usize, levels: u8) -> Result<(), GrammarFault>
-        ensures { Done 0 0 (the_turns (name_of n.name) n.place place levels ∷ []) self.old self.new result }
+    #[tactic(auto, unfolding(crate::specs::Machine::limit_at))]
+    fn turns(&mut self, n: PlacedName, offset: usize, levels: u8) -> Result<(), GrammarFault>
+        ensures { ReadsGoals 0 0 (the_turns (name_of n.name) n.offset offset levels ∷ []) self.old self.new result }
     {
         self.chain(Strength::Lor, levels)?;
-        put(self.out, Node::For(n.name, n.place, place));
+        put(self.out, Node::For(n.name, n.offset, offset));
         self.keyword(Keyword::Do)?;
         self.statement(levels)?;
         put(self.out, Node::Next(n.name));

@@ -1,6 +1,6 @@
 use Rattle.std.proofs.Common.{◌*ℤ◌, ap, ◌∙◌, w32, SFits}
 use Rattle.std.proofs.lemmas.Int.{to_z-of_z}
-use Rattle.arith.specs.Integers.{fitted, product}
+use Rattle.arith.specs.Integers.{integer_word, product}
 use Rattle.arith.proofs.Ints.{product_fits, over}
 use Rattle.arith.proofs.integer.mul.Goals as goal
 
@@ -14,5 +14,5 @@ pub returns : goal.returns
 unfolding product
 returns c =
     c.fit.ensures
-    ∙ ap fitted (over ◌*ℤ◌ _ _ _ _ c.value.ensures.exact c.value-2.ensures.exact record { sfits = c.value.type_inv } record { sfits = c.value-2.type_inv }
+    ∙ ap integer_word (over ◌*ℤ◌ _ _ _ _ c.value.ensures.exact c.value-2.ensures.exact record { sfits = c.value.type_inv } record { sfits = c.value-2.type_inv }
     (product_fits c.value.result c.value-2.result c.value.ensures.small c.value-2.ensures.small))

@@ -1,5 +1,5 @@
 use Rattle.std.proofs.Common.{ℤ, pos, ◌-ℤ◌, neg_ℤ, ap, ◌∙◌, w32, to_z, of_z}
-use Rattle.arith.specs.Integers.{fitted, negation}
+use Rattle.arith.specs.Integers.{integer_word, negation}
 use Rattle.arith.proofs.Ints.{negated_fits, zero_minus, back}
 use Rattle.arith.proofs.integer.neg.Goals as goal
 
@@ -11,5 +11,5 @@ unfolding negation
 returns c =
     let e = back c.value.result record { sfits = c.value.type_inv } in
     c.fit.ensures
-    ∙ ap (λ (z : ℤ). fitted (to_z w32 (of_z w32 (pos 0 -ℤ z)))) e
-    ∙ ap fitted (back (pos 0 -ℤ c.value.result) (negated_fits c.value.result c.value.ensures.small) ∙ zero_minus c.value.result ∙ ap neg_ℤ c.value.ensures.exact)
+    ∙ ap (λ (z : ℤ). integer_word (to_z w32 (of_z w32 (pos 0 -ℤ z)))) e
+    ∙ ap integer_word (back (pos 0 -ℤ c.value.result) (negated_fits c.value.result c.value.ensures.small) ∙ zero_minus c.value.result ∙ ap neg_ℤ c.value.ensures.exact)

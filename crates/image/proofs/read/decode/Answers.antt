@@ -3,7 +3,7 @@ use Rattle.std.proofs.lemmas.Result.{err_from_is_err_and}
 use Rattle.image.specs.Cursors.{rest_of}
 use Rattle.image.specs.Faults.{refusal_of}
 use Rattle.image.specs.Reading.{entries_at}
-use Rattle.image.specs.Codes.{coded}
+use Rattle.image.specs.Codes.{code_from}
 use Rattle.image.proofs.Whole.{only_images}
 use Rattle.image.proofs.Inverse.{decoded_figures, decoded_entries, decoded_from, figures_ok, figures_told, laid_down}
 use Rattle.image.proofs.read.decode.Goals as goal
@@ -32,7 +32,7 @@ returns c =
     let q = c.in_ok-fill.ensures in
     let e = ap (λ m. entries_at m f.count [] (rest_of c.figures.new.self)) (sym c.in_ok-figures.ensures.1) ∙ q.0 in
     let d = decoded_from (length c.args.table.now) c.args.bytes.now f (rest_of c.figures.new.self) (take f.count new) p e in
-    let o = only_images c.args.bytes.now (λ i. omega (arith, (c.type_inv.bytes i).fits)) (length c.args.table.now) (coded f.cells f.depth (take f.count new)) d in
+    let o = only_images c.args.bytes.now (λ i. omega (arith, (c.type_inv.bytes i).fits)) (length c.args.table.now) (code_from f.cells f.depth (take f.count new)) d in
     rw d record {
       of = (o.0, o.1);
       answer = figures_told (length c.args.bytes.now) f.count (rest_of c.figures.new.self) (take f.count new) f refl e;

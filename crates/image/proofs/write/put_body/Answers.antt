@@ -2,7 +2,7 @@ use Rattle.std.proofs.Common.{ℕ, ◌+◌, List, length, get_or, take, sym, ap,
 use Rattle.std.proofs.lemmas.List.{length-append, take_all}
 use Rattle.base.specs.declared.instr.Instr.{Instr}
 use Rattle.image.specs.Codes.{body_bytes, entry_bytes}
-use Rattle.image.specs.Writing.{Appended}
+use Rattle.image.specs.Writing.{IsAppended}
 use Rattle.image.proofs.Appends.{appended_then}
 use Rattle.image.proofs.Bodies.{none, body_more, body_front}
 use Rattle.image.proofs.write.put_body.Goals as goal
@@ -16,9 +16,9 @@ put_entry-requires c =
 
 pub loop-entry-preserved : goal.loop-entry-preserved
 loop-entry-preserved c =
-    subst (λ (xs : List ℕ). Appended c.args.out.now xs c.put_entry.new.out) (sym (body_more c.args.code.now c.loop-entry.entry-index none c.loop-entry-test.true))
+    subst (λ (xs : List ℕ). IsAppended c.args.out.now xs c.put_entry.new.out) (sym (body_more c.args.code.now c.loop-entry.entry-index none c.loop-entry-test.true))
     (appended_then _ _ _ _ _ c.loop-entry.invariant c.put_entry.ensures)
 
 pub returns : goal.returns
 returns c =
-    subst (λ (is : List Instr). Appended c.args.out.now (body_bytes is) c.loop-entry.out) (take_all c.loop-entry.entry-index c.args.code.now c.loop-entry-test.false) c.loop-entry.invariant
+    subst (λ (is : List Instr). IsAppended c.args.out.now (body_bytes is) c.loop-entry.out) (take_all c.loop-entry.entry-index c.args.code.now c.loop-entry-test.false) c.loop-entry.invariant

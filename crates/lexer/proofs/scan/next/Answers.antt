@@ -22,7 +22,7 @@ returns-in_err-found c =
     let xs = c.trimmed-bytes.result.now in
     let z = eqb-false (length xs) 0 (sym c.if-is_empty.ensures) in
     let f = c.in_err-found.field-0.0 in
-    let l = c.in_err-found.ensures ∙ same_front c.new.ensures.bytes c.new.ensures.place in
+    let l = c.in_err-found.ensures ∙ same_front c.new.ensures.bytes c.new.ensures.offset in
     rw (p.1, p.2)
     (record {
       exact = next_is c.args.end c.args.text.now xs c.trimmed-bytes.ensures z (Err (refusal_of f)) l;
@@ -36,7 +36,7 @@ returns c =
     let z = eqb-false (length xs) 0 (sym c.if-is_empty.ensures) in
     let t = c.in_ok-found.found.0 in
     let rest = c.in_ok-found.found.1.now in
-    let l = c.in_ok-found.ensures ∙ same_front c.new.ensures.bytes c.new.ensures.place in
+    let l = c.in_ok-found.ensures ∙ same_front c.new.ensures.bytes c.new.ensures.offset in
     record {
       exact = next_is c.args.end c.args.text.now xs c.trimmed-bytes.ensures z (got (piece t) rest) l;
       steps = steps_token c.args.end c.args.text.now xs c.trimmed-bytes.ensures z t rest l;

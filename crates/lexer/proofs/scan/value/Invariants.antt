@@ -3,4 +3,4 @@ use Rattle.lexer.specs.Lexemes.{value_of, base_of}
 use Rattle.lexer.proofs.scan.value.Given as goal
 
 abbrev pub invariant-loop-d : goal.invariant-loop-d
-invariant-loop-d l = value_of (base_of l.kind) 0 l.digits ≡ value_of (base_of l.kind) l.n (drop l.d-index l.digits)
+invariant-loop-d l = value_of (base_of l.radix) 0 l.digits ≡ value_of (base_of l.radix) l.n (drop l.d-index l.digits)

@@ -1,10 +1,10 @@
 use Rattle.std.proofs.Common.{◌≡◌, drop}
 use Rattle.std.specs.Option.{option_map}
-use Rattle.parser.specs.Entries.{entries}
+use Rattle.parser.specs.Nodes.{node_list}
 use Rattle.sema.specs.Faults.{refusal_of, least_from, least}
 use Rattle.sema.specs.Tabled.{table_as}
 use Rattle.sema.specs.Sizes.{size_faults}
 use Rattle.sema.proofs.sizes.sizes.Given as goal
 
 abbrev pub invariant-loop-n : goal.invariant-loop-n
-invariant-loop-n l = least_from (option_map refusal_of l.best) (size_faults (table_as l.table) (entries (drop l.n-index l.nodes))) ≡ least (size_faults (table_as l.table) (entries l.nodes))
+invariant-loop-n l = least_from (option_map refusal_of l.best) (size_faults (table_as l.table) (node_list (drop l.n-index l.nodes))) ≡ least (size_faults (table_as l.table) (node_list l.nodes))

@@ -1,7 +1,7 @@
 use Rattle.std.proofs.Common.{◌+◌, ◌-◌, ◌<◌, ◌≤◌, leb, arith}
 use Rattle.std.proofs.lemmas.Nat.{one_shl, shr_split}
 use Rattle.std.proofs.lemmas.Bool.{and_parts, leb-true}
-use Rattle.arith.specs.Fields.{deposited}
+use Rattle.arith.specs.Fields.{with_field}
 use Rattle.arith.proofs.Rounds.{deposit_fits}
 use Rattle.arith.proofs.field.Field.deposit.Goals as goal
 
@@ -16,7 +16,7 @@ overflow_cast-result c =
     rw (one_shl b 32 l, one_shl (16 - a - b) 32 k) (omega (arith, deposit_fits c.args.x c.args.v a b m (omega arith), shr_split c.args.x (16 - a)))
 
 pub returns : goal.returns
-unfolding deposited
+unfolding with_field
 returns c =
     let a = c.args.self.from in
     let b = c.args.self.count in

@@ -8,7 +8,7 @@ pub choose-requires-clause-room : goal.choose-requires-clause-room
 choose-requires-clause-room c =
     let x = c.args.x in
     let ts = c.args.self.now.todo in
-    let e = ap (λ n. length (emits n x.place x.after x.start ts)) c.in-Case.is in
+    let e = ap (λ n. length (emits n x.index x.after x.start ts)) c.in-Case.is in
     omega (arith, e, table_long c.in-Case.n ts, c.requires.room)
 
 pub returns-in-Case-clause-len : goal.returns-in-Case-clause-len

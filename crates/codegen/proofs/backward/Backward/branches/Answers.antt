@@ -1,6 +1,6 @@
 use Rattle.std.proofs.Common.{◌∷◌, length, ap, ◌∙◌, arith}
 use Rattle.ir.specs.Instrs.{BR}
-use Rattle.codegen.specs.declared.place.Aim.{Aim}
+use Rattle.codegen.specs.declared.placed.Aim.{Aim}
 use Rattle.codegen.specs.Items.{Back}
 use Rattle.codegen.proofs.Loops.{branch_more}
 use Rattle.codegen.proofs.backward.Backward.branches.Goals as goal

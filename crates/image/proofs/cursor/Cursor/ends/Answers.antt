@@ -11,4 +11,4 @@ returns-then-is_empty c o =
 pub returns : goal.returns
 returns c o =
     let h : 0 < length (rest_of c.args.self.now) = omega (arith, eqb-false (length (rest_of c.args.self.now)) 0 (sym c.if-is_empty.ensures)) in
-    entries_left c.args.self.now.end c.place.result o (rest_of c.args.self.now) h c.place.ensures
+    entries_left c.args.self.now.end c.offset.result o (rest_of c.args.self.now) h c.offset.ensures

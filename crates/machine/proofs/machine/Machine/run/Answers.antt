@@ -26,6 +26,6 @@ loop-i-preserved g c =
     let e : c.loop-i.self.ending ≡ None = search rules in
     let q : u ≡ step self.code.now self.depth t = rw (l.code, l.depth) at c.cycle.ensures.did in (
       run_more self.code.now self.depth c.loop-i.i (state_of g.S.Store.words self) t u c.loop-i.invariant.0 q,
-      omega (arith, steps_step self.code.now self.depth t e, ap (λ s. s.vm.steps) q, c.loop-i.invariant.1),
+      omega (arith, steps_step self.code.now self.depth t e, ap (λ s. s.registers.steps) q, c.loop-i.invariant.1),
       record { code = k.code ∙ l.code; depth = k.depth ∙ l.depth; stack = k.stack ∙ l.stack; words = k.words ∙ l.words; store = k.store ∙ l.store; kept = g.S.Store.goes _ _ _ l.kept k.kept },
     )

@@ -4,8 +4,8 @@ use Rattle.parser.specs.Readers.{weight}
 use Rattle.parser.proofs.Sofar.{Sofar}
 use Rattle.parser.proofs.reader.Reader.declarations.Given as goal
 
-abbrev pub invariant-loop-kind : goal.invariant-loop-kind
-invariant-loop-kind l = Sofar (declarations ∷ []) l.initial.self l.self
+abbrev pub invariant-loop-value_type : goal.invariant-loop-value_type
+invariant-loop-value_type l = Sofar (declarations ∷ []) l.initial.self l.self
 
-abbrev pub decreases-loop-kind : goal.decreases-loop-kind
-decreases-loop-kind l = weight l.self
+abbrev pub decreases-loop-value_type : goal.decreases-loop-value_type
+decreases-loop-value_type l = weight l.self

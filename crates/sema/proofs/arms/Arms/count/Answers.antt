@@ -2,8 +2,8 @@ use Rattle.std.proofs.Common.{[], ◌∷◌, length, drop, ap, ◌∙◌, sym, a
 use Rattle.std.proofs.lemmas.List.{drop_all, append-nil, length-drop}
 use Rattle.std.specs.Slice.Iter.{iter_rest}
 use Rattle.std.specs.Iterator.Adapters.{rev_source}
-use Rattle.parser.specs.Entries.{entries}
-use Rattle.sema.specs.CaseArms.{Counts, counted}
+use Rattle.parser.specs.Nodes.{node_list}
+use Rattle.sema.specs.CaseArms.{Counts, arm_counts}
 use Rattle.sema.proofs.Counting.{first_counted, counted_more, counted_none}
 use Rattle.sema.proofs.arms.Arms.count.Goals as goal
 
@@ -26,4 +26,4 @@ loop-n-preserved c =
     (tt, tt, p.0, p.1, omega (arith, ap length s, l, c.tally.ensures.opened, c.loop-n.invariant.4), omega (arith, ap length s, l, c.tally.ensures.closed, c.loop-n.invariant.5))
 
 pub returns : goal.returns
-returns c = c.loop-n.invariant.3 ∙ ap (λ k. counted (entries (drop k c.args.nodes.now))) c.in-None.ensures.steps.0
+returns c = c.loop-n.invariant.3 ∙ ap (λ k. arm_counts (node_list (drop k c.args.nodes.now))) c.in-None.ensures.steps.0

@@ -1,6 +1,6 @@
 use Rattle.std.proofs.Common.{unwrap_or, ap, ◌∙◌}
 use Rattle.std.proofs.lemmas.Option.{unwrap_or-slice_get}
-use Rattle.lexer.specs.declared.token.Kind.TheVariants.{Integer}
+use Rattle.parser.specs.declared.value_type.ValueType.TheVariants.{Integer}
 use Rattle.sema.proofs.operands.Operands.operand.Goals as goal
 
 pub returns : goal.returns

@@ -6,4 +6,4 @@ use Rattle.sema.proofs.table.NameTable.cells_fault.Goals as goal
 
 pub returns : goal.returns
 unfolding cells_at
-returns c = c.unless.ensures ∙ ap (λ (r : Row). unless (leb (r.cell + r.cells) 4096) 13 c.args.d.place) c.entry-e.ensures
+returns c = c.unless.ensures ∙ ap (λ (r : Row). unless (leb (r.cell + r.cells) 4096) 13 c.args.d.offset) c.entry-e.ensures
