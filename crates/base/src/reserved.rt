@@ -111,35 +111,3 @@ impl<T: Copy, const N: usize> Reserved<T, N> {
         Ok(())
     }
 }
-
-#[cfg(test)]
-mod tests {
-    use super::*;
-
-    #[test]
-    fn what_is_put_comes_back_from_the_top(rt: HostRuntime) {
-        match Reserved::<u16, 3>::new(rt.alloc()) {
-            Ok(mut list) => {
-                let _ = list.push(7);
-                let _ = list.push(8);
-                assert_eq!(rt; list.peek(1), Some(7), "below the top");
-                assert_eq!(rt; list.pop(), Some(8), "the top");
-                let _ = list.push(9);
-                assert_eq!(rt; list.len(), 2, "both");
-                assert_eq!(rt; list.hand_over(&mut [0]), Err(2), "the table is too short");
-                let mut table = [0, 0, 5];
-                assert_eq!(rt; list.hand_over(&mut table), Ok(()), "all are handed over");
-                assert_eq!(rt;
-                    table,
-                    [9, 7, 5],
-                    "the top first, and what lies past them is kept"
-                );
-                assert_eq!(rt; list.push(1), Ok(()), "the first of three");
-                assert_eq!(rt; list.push(2), Ok(()), "the second");
-                assert_eq!(rt; list.push(3), Ok(()), "the third");
-                assert_eq!(rt; list.push(4), Err(4), "there is room for three");
-            }
-            Err(_) => assert!(rt; false, "there is memory for three words"),
-        }
-    }
-}

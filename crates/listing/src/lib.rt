@@ -1,10 +1,7 @@
-// The commands that print what a source or an image holds, and the one that compiles.
+// The commands that print the code of a source or of an image, that compile, and that verify.
 #![tactic(auto)]
 
 mod annotated;
 pub mod compile;
 pub mod list;
-pub mod map;
-pub mod outline;
-pub mod tokens;
 pub mod verify;

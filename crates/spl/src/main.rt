@@ -2,11 +2,11 @@
 #![tactic(auto)]
 
 use anyhow::anyhow;
+use inspect::map::map;
+use inspect::outline::parse;
+use inspect::tokens::tokens;
 use listing::compile::compile;
 use listing::list::list;
-use listing::map::map;
-use listing::outline::parse;
-use listing::tokens::tokens;
 use listing::verify::verify;
 use protocol::batch::{batch, check};
 use runner::run::run;
