@@ -5,11 +5,8 @@ use Rattle.std.proofs.lemmas.Bool.{cases_Bool}
 use Rattle.std.specs.Option.{option_map}
 use Rattle.std.specs.Str.{bytes_eq}
 use Rattle.lexer.specs.declared.reserved.Reserved.{Reserved}
-use Rattle.lexer.specs.Names.{First, first_named, name_of}
-use Rattle.lexer.specs.Reserved.{Word, entry_of, lookup, reserved_words, keyword_of}
-
-abbrev pub spelled : Reserved → List ℕ
-spelled e = name_of e.name
+use Rattle.lexer.specs.Names.{First, first_named}
+use Rattle.lexer.specs.Reserved.{Word, entry_of, word_bytes, lookup, reserved_words, keyword_of}
 
 pub same : (xs ys : List ℕ) → xs ≡ ys → bytes_eq xs ys ≡ true
 same xs ys e = (bytes_eq-Decides xs ys).1 e
@@ -29,17 +26,17 @@ module _ {A B : Type 0} (text : A → List ℕ) (stands : A → B) (name : B →
   named_none [] w h = refl
   named_none (x ∷ xs) w h = rw (same_name x, other (text x) w (h 0 (omega arith))) (named_none xs w (λ k l. h (suc k) (omega arith)))
 
-pub lookup_some : (es : List Reserved) (w : List ℕ) (i : ℕ) (d : Reserved) → First (map spelled es) w (Some i) → Some (get_or es i d).keyword ≡ lookup (map entry_of es) w
-lookup_some es w i d h = ap (option_map (λ (e : Word). e.keyword)) (named_some spelled entry_of (λ (e : Word). e.text) (λ e. refl) es w i d h)
+pub lookup_some : (es : List Reserved) (w : List ℕ) (i : ℕ) (d : Reserved) → First (map word_bytes es) w (Some i) → Some (get_or es i d).keyword ≡ lookup (map entry_of es) w
+lookup_some es w i d h = ap (option_map (λ (e : Word). e.keyword)) (named_some word_bytes entry_of (λ (e : Word). e.text) (λ e. refl) es w i d h)
 
-pub lookup_none : (es : List Reserved) (w : List ℕ) → First (map spelled es) w None → None ≡ lookup (map entry_of es) w
-lookup_none es w h = ap (option_map (λ (e : Word). e.keyword)) (named_none spelled entry_of (λ (e : Word). e.text) (λ e. refl) es w h)
+pub lookup_none : (es : List Reserved) (w : List ℕ) → First (map word_bytes es) w None → None ≡ lookup (map entry_of es) w
+lookup_none es w h = ap (option_map (λ (e : Word). e.keyword)) (named_none word_bytes entry_of (λ (e : Word). e.text) (λ e. refl) es w h)
 
 -- with the table of reserved words
-pub keyword_some : (es : List Reserved) (w : List ℕ) (i : ℕ) (d : Reserved) → map entry_of es ≡ reserved_words → First (map spelled es) w (Some i) → Some (get_or es i d).keyword ≡ keyword_of w
+pub keyword_some : (es : List Reserved) (w : List ℕ) (i : ℕ) (d : Reserved) → map entry_of es ≡ reserved_words → First (map word_bytes es) w (Some i) → Some (get_or es i d).keyword ≡ keyword_of w
 unfolding keyword_of
 keyword_some es w i d e h = lookup_some es w i d h ∙ ap (λ (v : List Word). lookup v w) e
 
-pub keyword_none : (es : List Reserved) (w : List ℕ) → map entry_of es ≡ reserved_words → First (map spelled es) w None → None ≡ keyword_of w
+pub keyword_none : (es : List Reserved) (w : List ℕ) → map entry_of es ≡ reserved_words → First (map word_bytes es) w None → None ≡ keyword_of w
 unfolding keyword_of
 keyword_none es w e h = lookup_none es w h ∙ ap (λ (v : List Word). lookup v w) e

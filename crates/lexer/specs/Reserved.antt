@@ -1,7 +1,7 @@
 -- The reserved words.
-use Rattle.std.specs.Prelude.{ℕ, List, [], ◌∷◌, codes, Option}
+use Rattle.std.specs.Prelude.{ℕ, List, [], ◌∷◌, take, codes, Option}
 use Rattle.std.specs.Option.{option_map}
-use Rattle.lexer.specs.Names.{name_of, first_named}
+use Rattle.lexer.specs.Names.{first_named}
 use Rattle.lexer.specs.declared.reserved.Reserved.{Reserved}
 use Rattle.lexer.specs.declared.token.Keyword.{Keyword}
 use Rattle.lexer.specs.declared.token.Keyword.TheVariants.{Begin, End, Integer, Logical, Array, If, Then, Else, Case, Of, While, Do, Until, For, Step, Or, And, Mod, Lnot, Land, Xor, Lor, Lsl, Lsr, Asr, Csl, Csr, True, False, Comment}
@@ -46,9 +46,13 @@ reserved_words =
     record { text = codes "COMMENT"; keyword = Comment } ∷
     []
 
--- What an entry of the code's table of reserved words says.
+-- The bytes that an entry of the code's table of reserved words holds.
+abbrev pub word_bytes : Reserved → List ℕ
+word_bytes e = take e.len e.bytes
+
+-- What such an entry says.
 abbrev pub entry_of : Reserved → Word
-entry_of e = record { text = name_of e.name; keyword = e.keyword }
+entry_of e = record { text = word_bytes e; keyword = e.keyword }
 
 -- The keyword of the first entry of the list whose text is w, if there is one.
 abbrev pub lookup : List Word → List ℕ → Option Keyword
