@@ -15,7 +15,7 @@ use parser::workspace::Workspace;
 use report::fields::{Problem, hex, instrs, miscount, number, put_words, word, words};
 use report::names::put_text;
 use report::source::load;
-use std::alloc::{AllocError, Global};
+use std::alloc::Global;
 use std::fmt::Write;
 use std::io::Read;
 
@@ -57,6 +57,22 @@ fn lend(table: &mut Vec<Instr>, n: usize) -> Result<&mut [Instr], Problem> {
     Ok(&mut table.as_mut_slice()[..n])
 }
 
+// The workspace that was reserved for the first line that needed it.
+fn lend_reader(kept: &mut Option<Workspace>, heap: Global) -> Result<&mut Workspace, Problem> {
+    if kept.is_none() {
+        *kept = Some(Workspace::new(heap)?);
+    }
+    kept.as_mut().ok_or(Problem::Memory)
+}
+
+// The compiler that was reserved for the first line that needed it.
+fn lend_compiler(kept: &mut Option<Compiler>, heap: Global) -> Result<&mut Compiler, Problem> {
+    if kept.is_none() {
+        *kept = Some(Compiler::new(heap)?);
+    }
+    kept.as_mut().ok_or(Problem::Memory)
+}
+
 // Appends the code in the front of a table.
 fn put_code(out: &mut String, figures: Figures, table: &[Instr]) -> Result<(), Problem> {
     write!(out, "ok {} {} ", figures.cells, figures.depth)?;
@@ -92,22 +108,24 @@ pub struct Bench {
     bytes: Vec<u8>,
     code: Vec<Instr>,
     table: Vec<Instr>,
-    reader: Workspace,
-    compiler: Compiler,
+    // The memory of `parse` and of `compile` is reserved when the first of them is asked for, so that other requests
+    // are answered without it.
+    reader: Option<Workspace>,
+    compiler: Option<Compiler>,
     desk: Desk,
 }
 
 impl Bench {
-    fn new(heap: Global) -> Result<Bench, AllocError> {
-        Ok(Bench {
+    fn new(heap: Global) -> Bench {
+        Bench {
             heap,
             bytes: Vec::new(heap),
             code: Vec::new(heap),
             table: Vec::new(heap),
-            reader: Workspace::new(heap)?,
-            compiler: Compiler::new(heap)?,
+            reader: None,
+            compiler: None,
             desk: Desk::new(heap),
-        })
+        }
     }
 
     // imagein TABLE HEX
@@ -175,9 +193,10 @@ impl Bench {
             return Err(miscount(fields.len(), 1));
         };
         hex(bytes, &mut self.bytes)?;
-        match self.reader.read(self.bytes.as_slice()) {
+        let reader = lend_reader(&mut self.reader, self.heap)?;
+        match reader.read(self.bytes.as_slice()) {
             Ok(()) => {
-                write!(out, "ok {}", self.reader.nodes().len())?;
+                write!(out, "ok {}", reader.nodes().len())?;
                 Ok(())
             }
             Err(fault) => refused(out, fault),
@@ -192,7 +211,7 @@ impl Bench {
         let room = number(table)?.min(MOST_INSTRUCTIONS);
         hex(bytes, &mut self.bytes)?;
         let table = lend(&mut self.table, room)?;
-        match self.compiler.compile(self.bytes.as_slice(), table) {
+        match lend_compiler(&mut self.compiler, self.heap)?.compile(self.bytes.as_slice(), table) {
             Ok(figures) => put_code(out, figures, table),
             Err(fault) => refused(out, fault),
         }
@@ -200,11 +219,14 @@ impl Bench {
 
     // Answers a request line. Fails where it is no request.
     fn request(&mut self, line: &[u8], out: &mut String) -> Result<(), Problem> {
-        let mut fields = Vec::new(self.heap);
-        for field in line.split(|b| *b == b' ') {
-            fields.push(field)?;
+        // No request has more than seven words. So eight are too many already, and the rest of the line does not matter.
+        let mut words = [line; 8];
+        let mut found = 0usize;
+        for (word, field) in words.iter_mut().zip(line.split(|b| *b == b' ')) {
+            *word = field;
+            found = found.saturating_add(1);
         }
-        match fields.as_slice() {
+        match words.get(..found).unwrap_or(&words) {
             [b"imagein", fields @ ..] => self.image_in(fields, out),
             [b"imageout", fields @ ..] => self.image_out(fields, out),
             [b"tokens", fields @ ..] => self.tokens(fields, out),
@@ -260,7 +282,7 @@ fn without_feed(line: &[u8]) -> &[u8] {
 /// and empty lines are passed over. Prints each difference and how many there are, and fails if there is one.
 pub fn check(rt: &HostRuntime, path: &str) -> anyhow::Result<()> {
     let input = load(rt, path)?;
-    let mut bench = Bench::new(rt.alloc())?;
+    let mut bench = Bench::new(rt.alloc());
     let mut count = 0u64;
     let mut wrong = 0u64;
     for (before, line) in input.as_slice().split_inclusive(is_feed).enumerate() {
@@ -286,7 +308,7 @@ pub fn batch(rt: &HostRuntime) -> anyhow::Result<()> {
     let heap = rt.alloc();
     let mut input = Vec::new(heap);
     rt.stdin().read_to_end(&mut input)?;
-    let mut bench = Bench::new(heap)?;
+    let mut bench = Bench::new(heap);
     let mut out = String::new(heap);
     for line in input.as_slice().split_inclusive(is_feed) {
         bench.answer(without_feed(line), &mut out)?;

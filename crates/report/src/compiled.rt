@@ -54,9 +54,8 @@ impl Compiled {
     }
 }
 
-/// Compiles the source in a file. If the file cannot be read or the source is refused, prints why and fails.
-pub fn compile_file(rt: &HostRuntime, path: &str) -> anyhow::Result<Compiled> {
-    let source = load(rt, path)?;
+/// Compiles a source that was read from the file of this path. If it is refused, prints why and fails.
+pub fn compile_source(rt: &HostRuntime, path: &str, source: Vec<u8>) -> anyhow::Result<Compiled> {
     let mut compiler = Compiler::new(rt.alloc())?;
     let mut table = vec![in rt.alloc(); Instr::default(); MOST_INSTRUCTIONS]?;
     match compiler.compile(source.as_slice(), table.as_mut_slice()) {
@@ -74,4 +73,10 @@ pub fn compile_file(rt: &HostRuntime, path: &str) -> anyhow::Result<Compiled> {
             Err(anyhow!("the source is refused"))
         }
     }
+}
+
+/// Compiles the source in a file. If the file cannot be read or the source is refused, prints why and fails.
+pub fn compile_file(rt: &HostRuntime, path: &str) -> anyhow::Result<Compiled> {
+    let source = load(rt, path)?;
+    compile_source(rt, path, source)
 }

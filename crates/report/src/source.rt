@@ -36,10 +36,14 @@ impl Spot {
     pub fn onward(self, source: &[u8], offset: usize) -> Spot {
         let mut line = self.line;
         let mut start = self.start;
-        for (i, b) in source.iter().enumerate().take(offset).skip(self.offset) {
+        // By its bounds: the library's `skip` would go over all bytes before them one by one.
+        let between = source
+            .get(self.offset..offset.min(source.len()))
+            .unwrap_or(&[]);
+        for (i, b) in between.iter().enumerate() {
             if *b == b'\n' {
                 line = line.saturating_add(1);
-                start = i.saturating_add(1);
+                start = self.offset.saturating_add(i).saturating_add(1);
             }
         }
         Spot {

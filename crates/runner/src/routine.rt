@@ -13,7 +13,7 @@ use lexer::search::Named;
 use machine::ending::Ending;
 use machine::registers::Registers;
 use parser::value_type::ValueType;
-use report::compiled::{Compiled, compile_file};
+use report::compiled::{Compiled, compile_source};
 use report::line_map::line_map;
 use report::mark;
 use report::names::{owner, put_text};
@@ -179,7 +179,7 @@ pub fn open(rt: &HostRuntime, path: &str) -> anyhow::Result<Routine> {
                 count: 0,
             };
             Ok(Routine {
-                compiled: Some(compile_file(rt, path)?),
+                compiled: Some(compile_source(rt, path, bytes)?),
                 figures,
                 table,
             })
