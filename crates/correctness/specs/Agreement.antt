@@ -7,7 +7,7 @@ use Rattle.machine.specs.declared.ending.Ending.TheVariants.{Halted, Stopped}
 use Rattle.machine.specs.Endings.{number_of}
 use Rattle.machine.specs.Machine.{State, state, run}
 use Rattle.semantics.specs.Effects.{Store, Write, leave, Effect, effect, cut, writes_of}
-use Rattle.semantics.specs.Meaning.{exec}
+use Rattle.semantics.specs.Meaning.{exec, Within}
 use Rattle.ast.specs.Trees.{Program}
 use Rattle.sema.specs.Rules.{KeepsTheRules, widths}
 use Rattle.sema.specs.Resolving.{resolve}
@@ -59,3 +59,8 @@ pub record Keeps (b : Body) (st : List ℕ) (σ : Store) : Type 0 where
 abbrev pub Agreement : Type 0
 Agreement =
     (p : Program) (st : List ℕ) (σ : Store) → KeepsTheRules p → widths p.decls ≤ length σ → depth (resolve p) ≤ length st → Keeps (resolve p) st σ
+
+-- The same of every tree of statements, also of one that no source resolves to: each cell that it names is one of the
+-- store's, and the stack is at least as long as its depth.
+abbrev pub AgreementOfTrees : Type 0
+AgreementOfTrees = (b : Body) (st : List ℕ) (σ : Store) → Within b (length σ) → depth b ≤ length st → Keeps b st σ

@@ -25,6 +25,6 @@ pub record Examples : Type 0 where
   pub stops : (after filling (0 ∷ 0 ∷ 0 ∷ 0 ∷ []) (7 ∷ 0 ∷ 0 ∷ 0 ∷ 0 ∷ []) 60).registers.ending ≡ Some (Stopped BadIndex)
   pub cells : (after filling (0 ∷ 0 ∷ 0 ∷ 0 ∷ []) (7 ∷ 0 ∷ 0 ∷ 0 ∷ 0 ∷ []) 60).cells ≡ 4 ∷ 0 ∷ 1 ∷ 2 ∷ 3 ∷ []
   pub writes : (after filling (0 ∷ 0 ∷ 0 ∷ 0 ∷ []) (7 ∷ 0 ∷ 0 ∷ 0 ∷ 0 ∷ []) 60).registers.writes ≡ 7
-  -- it is within its cells, and keeps step as the theorem says of every source that keeps the rules
+  -- It names its own five cells only, so the theorem holds of it: what the theorem asks for can be met.
   pub within : Within filling 5
   pub keeps : Keeps filling (0 ∷ 0 ∷ 0 ∷ 0 ∷ []) (7 ∷ 0 ∷ 0 ∷ 0 ∷ 0 ∷ [])

@@ -14,7 +14,7 @@ use Rattle.machine.specs.declared.call.Call.TheVariants.{Resume, Look, Report}
 use Rattle.machine.specs.Sessions.{initial_registers}
 use Rattle.machine.specs.Calls.{state_after_calls}
 use Rattle.semantics.specs.Effects.{Store, leave, writes_of}
-use Rattle.semantics.specs.Meaning.{exec}
+use Rattle.semantics.specs.Meaning.{exec, Within}
 use Rattle.ast.specs.Trees.{Program}
 use Rattle.sema.specs.Rules.{KeepsTheRules, widths}
 use Rattle.sema.specs.Resolving.{resolve}
@@ -104,3 +104,10 @@ KeepsStep =
     (p : Program) (st : List ℕ) (σ : Store) → KeepsTheRules p → length (program (resolve p)) ≤ most_instructions → depth (resolve p) ≤ length st → widths p.decls ≤ length σ →
     (xs : List Call) →
     Promise (resolve p) (widths p.decls) st σ (limits xs) (state_after_calls (widths p.decls) (depth (resolve p)) (program (resolve p)) xs (state initial_registers st σ))
+
+-- The same of every tree of statements, also of one that no source resolves to, on a session that is started with c
+-- cells: each cell that the tree names is below c.
+abbrev pub TreesKeepStep : Type 0
+TreesKeepStep =
+    (b : Body) (c : ℕ) (st : List ℕ) (σ : Store) → Within b c → length (program b) ≤ most_instructions → depth b ≤ length st → c ≤ length σ → (xs : List Call) →
+    Promise b c st σ (limits xs) (state_after_calls c (depth b) (program b) xs (state initial_registers st σ))

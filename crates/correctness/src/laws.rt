@@ -1,9 +1,9 @@
 // The laws by which the machine keeps step with the source.
-ghost use Rattle.correctness.specs.Agreement.{Agreement};
+ghost use Rattle.correctness.specs.Agreement.{Agreement, AgreementOfTrees};
 ghost use Rattle.correctness.specs.Examples.{Examples};
 ghost use Rattle.correctness.specs.Heights.{Heights};
 ghost use Rattle.correctness.specs.Named.{CodeNamesItsOwnCells, NamesItsOwnCells};
-ghost use Rattle.correctness.specs.Sessions.{KeepsStep};
+ghost use Rattle.correctness.specs.Sessions.{KeepsStep, TreesKeepStep};
 
 /// States what holds of the code of a source that keeps the rules, over a store with at least the source's cells
 /// and a stack of at least its depth: the machine makes the source's writes in their order, ends only as the source
@@ -16,6 +16,18 @@ pub fn agreement_stands()
 /// height and steps are those of the source.
 pub fn sessions_keep_step()
     ensures { KeepsStep }
+{}
+
+/// States the same as `agreement_stands` of every tree of statements, also of one that no source resolves to: each cell
+/// that it names is one of the store's, and the stack is at least as long as its depth.
+pub fn trees_agree()
+    ensures { AgreementOfTrees }
+{}
+
+/// States the same as `sessions_keep_step` of every tree of statements, also of one that no source resolves to, and of
+/// every number of cells that a session is started with: each cell that the tree names is below it.
+pub fn trees_keep_step()
+    ensures { TreesKeepStep }
 {}
 
 /// States that every step that does not end the run changes the number of words stacked as the table of pushes and
