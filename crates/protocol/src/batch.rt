@@ -57,14 +57,6 @@ fn lend(table: &mut Vec<Instr>, n: usize) -> Result<&mut [Instr], Problem> {
     Ok(&mut table.as_mut_slice()[..n])
 }
 
-// The workspace that was reserved for the first line that needed it.
-fn lend_reader(kept: &mut Option<Workspace>, heap: Global) -> Result<&mut Workspace, Problem> {
-    if kept.is_none() {
-        *kept = Some(Workspace::new(heap)?);
-    }
-    kept.as_mut().ok_or(Problem::Memory)
-}
-
 // The compiler that was reserved for the first line that needed it.
 fn lend_compiler(kept: &mut Option<Compiler>, heap: Global) -> Result<&mut Compiler, Problem> {
     if kept.is_none() {
@@ -108,9 +100,7 @@ pub struct Bench {
     bytes: Vec<u8>,
     code: Vec<Instr>,
     table: Vec<Instr>,
-    // The memory of `parse` and of `compile` is reserved when the first of them is asked for, so that other requests
-    // are answered without it.
-    reader: Option<Workspace>,
+    // Reserved when the first line asks for it, so that other requests are answered without its memory.
     compiler: Option<Compiler>,
     desk: Desk,
 }
@@ -122,7 +112,6 @@ impl Bench {
             bytes: Vec::new(heap),
             code: Vec::new(heap),
             table: Vec::new(heap),
-            reader: None,
             compiler: None,
             desk: Desk::new(heap),
         }
@@ -193,7 +182,8 @@ impl Bench {
             return Err(miscount(fields.len(), 1));
         };
         hex(bytes, &mut self.bytes)?;
-        let reader = lend_reader(&mut self.reader, self.heap)?;
+        // Let go after the line, so that later lines have its memory.
+        let mut reader = Workspace::new(self.heap)?;
         match reader.read(self.bytes.as_slice()) {
             Ok(()) => {
                 write!(out, "ok {}", reader.nodes().len())?;
@@ -303,7 +293,7 @@ pub fn check(rt: &HostRuntime, path: &str) -> anyhow::Result<()> {
 }
 
 /// Answers the requests on standard input, one line for each, until the input ends. Fails where standard input or
-/// output fails, and where there is too little memory for the input and the tables.
+/// output fails, and where there is too little memory for the input and the answers.
 pub fn batch(rt: &HostRuntime) -> anyhow::Result<()> {
     let heap = rt.alloc();
     let mut input = Vec::new(heap);
